@@ -1,0 +1,238 @@
+// Runs a file of cases over the C interface: a line of standard input a case, the line and its result to standard output.
+// The cases are the captures of documents 001 and 002 and the edges of document 01; crates/cases/stdin has the form of a line.
+use libc::STDIN_FILENO;
+use libc::STDOUT_FILENO;
+ghost use Rattle.io.specs.Counts.{Counts};
+
+// What a room holds before each call.
+const FILL: u8 = 0x5A;
+
+// The bytes of a case as far as they were read from its line.
+struct Bytes {
+    bytes: [u8; 48],
+    used: usize,
+    high: u8,
+    half: bool,
+}
+
+// Whether a character is a hexadecimal digit, and its value.
+enum Digit {
+    Value(u8),
+    Other,
+}
+
+fn main() {
+    let mut text = io::large_buffer();
+    let n = io::read_full(STDIN_FILENO, &mut text);
+    run_lines(&text[..n]);
+}
+
+// Runs each line.
+fn run_lines(text: &[u8]) {
+    let n = text.len();
+    let mut at = 0;
+    while at < n {
+        let end = bytes::scan::find(text, at, n, b'\n');
+        run_line(&text[at..end]);
+        at = end + 1;
+    }
+}
+
+// Prints a line and, where it is a case, its result.
+fn run_line(line: &[u8]) {
+    print(line);
+    print(b"\n");
+    let operation = byte_at(line, 0);
+    if operation == 0 {
+        return;
+    }
+    if operation != b'#' {
+        let case = bytes_of(line);
+        let s = case.bytes;
+        let k = within(case.used, &s);
+        run_case(operation, &s[..k]);
+    }
+}
+
+// The hexadecimal digits behind the first character of a line, two a byte.
+fn bytes_of(line: &[u8]) -> Bytes {
+    let mut b = Bytes {
+        bytes: [0; 48],
+        used: 0,
+        high: 0,
+        half: false,
+    };
+    let mut i = 1;
+    while i < line.len() {
+        b = with_character(b, line[i]);
+        i += 1;
+    }
+    b
+}
+
+// Takes one more character; what is no digit, and what does not fit, is passed over.
+fn with_character(b: Bytes, character: u8) -> Bytes {
+    let digit = digit_of(character);
+    let Digit::Value(d) = digit else {
+        return b;
+    };
+    let mut next = b;
+    if !b.half {
+        next.high = d;
+        next.half = true;
+        return next;
+    }
+    let used = b.used;
+    if used < 48 {
+        next.bytes[used] = joined(b.high, d);
+        next.used = used + 1;
+    }
+    next.half = false;
+    next
+}
+
+fn digit_of(character: u8) -> Digit {
+    match character {
+        b'0'..=b'9' => Digit::Value(character - b'0'),
+        b'A'..=b'F' => Digit::Value(character - b'A' + 10),
+        _ => Digit::Other,
+    }
+}
+
+fn joined(high: u8, low: u8) -> u8 {
+    high % 16 * 16 + low % 16
+}
+
+// Runs a case: the first byte is the length of the room; a checksum has none.
+fn run_case(operation: u8, s: &[u8]) {
+    if operation == b's' {
+        print(b"  ");
+        print_hex(osp::osp_checksum(s));
+        print(b"\n");
+        return;
+    }
+    let mut out = [FILL; 48];
+    let room = within(byte_at(s, 0) as usize, &out);
+    let result = call(operation, from(s, 1), &mut out[..room]);
+    print_room(result, &out);
+}
+
+// Calls the function that the operation names.
+fn call(operation: u8, s: &[u8], out: &mut [u8]) -> u32 {
+    match operation {
+        b'r' => osp::osp_read(s, out),
+        b'd' => osp::osp_dissect(s, out),
+        b'a' => osp::osp_dissect_answer(s, out),
+        b'b' => osp::osp_build(long_at(s, 0), long_at(s, 4), from(s, 8), out),
+        b'c' => osp::osp_build_command(
+            long_at(s, 0),
+            long_at(s, 4),
+            long_at(s, 8),
+            from(s, 12),
+            out,
+        ),
+        b'p' => osp::osp_build_pwm(
+            long_at(s, 0),
+            long_at(s, 4),
+            long_at(s, 8),
+            long_at(s, 12),
+            long_at(s, 16),
+            long_at(s, 20),
+            out,
+        ),
+        _ => 255,
+    }
+}
+
+fn print_room(result: u32, out: &[u8; 48]) {
+    print_result(result, out);
+}
+
+// The number given back and, where it is 0, the count and the bytes written; and whether another byte of the room changed.
+fn print_result(result: u32, out: &[u8]) {
+    let number = result % 256;
+    let written = within((result / 256) as usize, out);
+    print(b"  ");
+    print_decimal(number);
+    if number == 0 {
+        print(b" ");
+        print_decimal(result / 256);
+        print_bytes(&out[..written]);
+    }
+    print(b"\n");
+    if !unchanged(from(out, written)) {
+        print(b"  room changed\n");
+    }
+}
+
+// Whether each byte is as it was before the call.
+fn unchanged(out: &[u8]) -> bool {
+    let mut i = 0;
+    while i < out.len() {
+        if out[i] != FILL {
+            return false;
+        }
+        i += 1;
+    }
+    true
+}
+
+// The bytes behind an index; none where there are not so many.
+fn from(s: &[u8], at: usize) -> &[u8] {
+    let k = within(at, s);
+    &s[k..]
+}
+
+// The byte at an index, 0 where there is none.
+fn byte_at(s: &[u8], i: usize) -> u8 {
+    if i < s.len() { s[i] } else { 0 }
+}
+
+// The number of four bytes, high byte first, at an index.
+fn long_at(s: &[u8], i: usize) -> u32 {
+    let t = from(s, i);
+    long(byte_at(t, 0), byte_at(t, 1), byte_at(t, 2), byte_at(t, 3))
+}
+
+fn long(a: u8, b: u8, c: u8, d: u8) -> u32 {
+    a as u32 * 16777216 + b as u32 * 65536 + c as u32 * 256 + d as u32
+}
+
+// The number nearest to n that counts bytes at the start of s.
+fn within(n: usize, s: &[u8]) -> usize
+    ensures { λ r. ⌜ Counts r (now (s .entry)) ⌝ }
+{
+    let most = s.len();
+    if n < most { n } else { most }
+}
+
+fn print(s: &[u8]) {
+    io::write_all(STDOUT_FILENO, s);
+}
+
+fn print_decimal(n: u32) {
+    let mut digits = [0u8; 20];
+    let k = io::decimal(n as u64, &mut digits);
+    print(&digits[..k]);
+}
+
+fn print_hex(b: u8) {
+    print(&[glyph(b / 16), glyph(b % 16)]);
+}
+
+fn glyph(n: u8) -> u8 {
+    let d = n % 16;
+    if d < 10 { b'0' + d } else { b'A' - 10 + d }
+}
+
+fn print_byte(b: u8) {
+    print(&[b' ', glyph(b / 16), glyph(b % 16)]);
+}
+
+fn print_bytes(s: &[u8]) {
+    let mut i = 0;
+    while i < s.len() {
+        print_byte(s[i]);
+        i += 1;
+    }
+}

@@ -1,0 +1,91 @@
+-- What every command has, by cases: a row of the table that its payload fits, and a payload that holds its fields.
+-- Assumes nothing.
+use mathlib.Core.Path.{_≡_, refl, ap}
+use mathlib.Core.Bool.{Bool, true, false, cond, _&&_}
+use mathlib.Core.List.{List, [], _∷_, _++_}
+use Prim.Native.Nat.{ℕ, _+_, _*_, _/_, _%_, _≤_}
+use native.Mathlib.Omega.{arith}
+use native.Mathlib.Nat.{div-add-mod'}
+use lib.Dec.{leb, lit≤}
+use lib.ListN.{length}
+use borrow.Author.Tests.{leb-true}
+use Rattle.telegram.specs.Numbers.{done}
+use Rattle.telegram.specs.Telegram.{listed}
+use Rattle.command.specs.Fields.{pwm, layoutOf, answerLayoutOf, fieldsBy, payloadBy, dutiesInRange, modeOf, pwmFields}
+use Rattle.command.specs.Commands.{Message, messageOf, payloadOf, rowOf, payloadSizeOf}
+use Rattle.command.specs.declared.Pwm.{Pwm}
+use Rattle.command.specs.declared.Command.{Command}
+use Rattle.command.specs.declared.Command.the-variants.{Reset, ClearError, InitBidir, InitLoop, GoSleep, GoActive, GoDeepSleep, Identify, ReadMult, SetMult, ReadStatus, ReadTempStatus, ReadTemp, ReadThresholds, SetThresholds, ReadSetup, SetSetup, ReadPwm, SetPwm}
+use Rattle.command.specs.Answers.{answerMessageOf, answerPayloadOf}
+use Rattle.command.specs.declared.Answer.{Answer}
+use Rattle.command.specs.declared.Answer.the-variants.{InitBidir as AnswerBidir, InitLoop as AnswerLoop, Identity, Mask, Status, TempStatus, Temp, Thresholds, Setup, Words}
+use Rattle.telegram.proofs.Building.{listed-le}
+use Rattle.command.proofs.Both.{and-left, and-right}
+
+pub record Sound (m : Message) : Type 0 where
+  pub number : m .number ≤ 127
+  pub length-listed : listed (length (payloadOf m)) ≡ true
+  pub size : payloadSizeOf (m .number) ≡ done (length (payloadOf m))
+  pub back : dutiesInRange (layoutOf (m .number)) (m .fields) ≡ true → fieldsBy (layoutOf (m .number)) (payloadOf m) ≡ m .fields
+
+word-forth : (w : ℕ) → w / 256 * 256 + w % 256 ≡ w
+word-forth w = div-add-mod' w 256
+
+mode-le : (b : Bool) → cond b 1 0 ≤ 1
+mode-le true = omega arith
+mode-le false = omega arith
+
+-- mode and duty of a PWM word come back
+mode-forth : (x : Pwm) → (modeOf x * 32768 + x .duty % 32768) / 32768 ≡ modeOf x
+mode-forth x = let m = modeOf x in let h : m ≤ 1 = mode-le (x .day) in omega arith
+
+duty-forth : (x : Pwm) → leb (x .duty) 32767 ≡ true → (modeOf x * 32768 + x .duty % 32768) % 32768 ≡ x .duty
+duty-forth x h = let m = modeOf x in let d = x .duty in let k : d ≤ 32767 = leb-true d 32767 h in omega arith
+
+pwm-forth : (r g b : Pwm) → dutiesInRange pwm (pwmFields r g b) ≡ true → fieldsBy pwm (payloadBy pwm (pwmFields r g b)) ≡ pwmFields r g b
+pwm-forth r g b h =
+    let hr : leb (r .duty) 32767 ≡ true = and-left _ _ h in
+    let k : (leb (g .duty) 32767 && leb (b .duty) 32767) ≡ true = and-right (leb (r .duty) 32767) _ h in
+    let hg : leb (g .duty) 32767 ≡ true = and-left _ _ k in
+    let hb : leb (b .duty) 32767 ≡ true = and-right (leb (g .duty) 32767) _ k in
+    simp
+    (word-forth, mode-forth r, mode-forth g, mode-forth b, duty-forth r hr, duty-forth g hg, duty-forth b hb)
+
+pub sound : (c : Command) → Sound (messageOf c)
+unfolding layoutOf rowOf
+sound Reset = record { number = lit≤ tt; length-listed = refl; size = refl; back = λ h. refl }
+sound ClearError = record { number = lit≤ tt; length-listed = refl; size = refl; back = λ h. refl }
+sound InitBidir = record { number = lit≤ tt; length-listed = refl; size = refl; back = λ h. refl }
+sound InitLoop = record { number = lit≤ tt; length-listed = refl; size = refl; back = λ h. refl }
+sound GoSleep = record { number = lit≤ tt; length-listed = refl; size = refl; back = λ h. refl }
+sound GoActive = record { number = lit≤ tt; length-listed = refl; size = refl; back = λ h. refl }
+sound GoDeepSleep = record { number = lit≤ tt; length-listed = refl; size = refl; back = λ h. refl }
+sound Identify = record { number = lit≤ tt; length-listed = refl; size = refl; back = λ h. refl }
+sound ReadMult = record { number = lit≤ tt; length-listed = refl; size = refl; back = λ h. refl }
+sound (SetMult w) = record { number = lit≤ tt; length-listed = refl; size = refl; back = λ h. ap (λ (x : ℕ). x ∷ []) (word-forth w) }
+sound ReadStatus = record { number = lit≤ tt; length-listed = refl; size = refl; back = λ h. refl }
+sound ReadTempStatus = record { number = lit≤ tt; length-listed = refl; size = refl; back = λ h. refl }
+sound ReadTemp = record { number = lit≤ tt; length-listed = refl; size = refl; back = λ h. refl }
+sound ReadThresholds = record { number = lit≤ tt; length-listed = refl; size = refl; back = λ h. refl }
+sound (SetThresholds x y z) = record { number = lit≤ tt; length-listed = refl; size = refl; back = λ h. refl }
+sound ReadSetup = record { number = lit≤ tt; length-listed = refl; size = refl; back = λ h. refl }
+sound (SetSetup x) = record { number = lit≤ tt; length-listed = refl; size = refl; back = λ h. refl }
+sound ReadPwm = record { number = lit≤ tt; length-listed = refl; size = refl; back = λ h. refl }
+sound (SetPwm r g b) = record { number = lit≤ tt; length-listed = refl; size = refl; back = pwm-forth r g b }
+
+-- No payload is longer than 8 bytes.
+pub command-short : (c : Command) → length (payloadOf (messageOf c)) ≤ 8
+command-short c = listed-le (length (payloadOf (messageOf c))) (sound c .length-listed)
+
+pub answer-short : (a : Answer) → length (answerPayloadOf (answerMessageOf a)) ≤ 8
+unfolding answerLayoutOf
+answer-short (AnswerBidir t x) = lit≤ tt
+answer-short (AnswerLoop t x) = lit≤ tt
+answer-short (Identity x) = lit≤ tt
+answer-short (Mask x) = lit≤ tt
+answer-short (Status x) = lit≤ tt
+answer-short (TempStatus t x) = lit≤ tt
+answer-short (Temp t) = lit≤ tt
+answer-short (Thresholds x y z) = lit≤ tt
+answer-short (Setup x) = lit≤ tt
+answer-short (Words r g b) = lit≤ tt

@@ -1,0 +1,175 @@
+-- Document 01, "Commands": the table, what the command dissector gives and what the command builder makes.
+-- Assumes nothing.
+use Prim.Native.Nat.{ℕ, _+_, _-_}
+use mathlib.Core.Bool.{Bool, true, false, cond, not}
+use mathlib.Core.List.{List, [], _∷_, _++_}
+use lib.Dec.{eqb, leb, ltb}
+use lib.ListN.{length, replicate}
+use Rattle.telegram.specs.Numbers.{Outcome, refused, done, refuse, after, numberOf}
+use Rattle.telegram.specs.Telegram.{reading, payloadIn, telegramOf}
+use Rattle.telegram.specs.declared.Telegram.{Telegram}
+use Rattle.command.specs.Casts.{destination, addressOf, castInRange}
+use Rattle.command.specs.Fields.{Layout, layoutOf, fieldsBy, payloadBy, dutiesInRange, pwmFields}
+use Rattle.command.specs.declared.Casts.{Casts}
+use Rattle.command.specs.declared.Casts.the-variants.{All, Single, First}
+use Rattle.command.specs.declared.Row.{Row}
+use Rattle.command.specs.declared.Entry.{Entry}
+use Rattle.command.specs.declared.Entry.the-variants.{Known, Unknown}
+use Rattle.command.specs.declared.Cast.{Cast}
+use Rattle.command.specs.declared.Cast.the-variants.{Everyone, One, Group}
+use Rattle.command.specs.declared.Command.{Command}
+use Rattle.command.specs.declared.Command.the-variants.{Reset, ClearError, InitBidir, InitLoop, GoSleep, GoActive, GoDeepSleep, Identify, ReadMult, SetMult, ReadStatus, ReadTempStatus, ReadTemp, ReadThresholds, SetThresholds, ReadSetup, SetSetup, ReadPwm, SetPwm}
+use Rattle.command.specs.declared.Parts.{Parts}
+use Rattle.command.specs.declared.Composed.{Composed}
+use Rattle.command.specs.declared.Composed.the-variants.{Accepted as Command-accepted, Refused as Command-refused}
+use Rattle.command.specs.declared.Dissection.{Dissection}
+use Rattle.command.specs.declared.Dissection.the-variants.{Accepted, Refused}
+
+-- A row of the table: casts, payload bytes, answer bytes.
+abbrev pub row : Casts → ℕ → ℕ → Outcome Row
+row casts payload answer = done (record { casts = casts; payload = payload; answer = answer })
+
+-- The table: casts, payload bytes and answer bytes of each number. Every other number is unknown (6).
+unfoldable pub rowOf : ℕ → Outcome Row
+rowOf n =
+    cond (leb n 0x01) (row All 0 0)  -- RESET, CLRERROR
+    (cond (leb n 0x03) (row First 0 2)  -- INITBIDIR, INITLOOP
+    (cond (leb n 0x06) (row All 0 0)  -- GOSLEEP, GOACTIVE, GODEEPSLEEP
+    (cond (eqb n 0x07) (row Single 0 4)  -- IDENTIFY
+    (cond (eqb n 0x0C) (row Single 0 2)  -- READMULT
+    (cond (eqb n 0x0D) (row All 2 0)  -- SETMULT
+    (cond (eqb n 0x40) (row Single 0 1)  -- READSTATUS
+    (cond (eqb n 0x42) (row Single 0 2)  -- READTEMPST
+    (cond (eqb n 0x48) (row Single 0 1)  -- READTEMP
+    (cond (eqb n 0x4A) (row Single 0 3)  -- READOTTH
+    (cond (eqb n 0x4B) (row All 3 0)  -- SETOTTH
+    (cond (eqb n 0x4C) (row Single 0 1)  -- READSETUP
+    (cond (eqb n 0x4D) (row All 1 0)  -- SETSETUP
+    (cond (eqb n 0x4E) (row Single 0 6)  -- READPWM
+    (cond (eqb n 0x4F) (row All 6 0)  -- SETPWM
+    (refused 6)))))))))))))))
+
+-- The code's answer for a number: a row of the table, or unknown, which is 6.
+abbrev pub entryAs : Entry → Outcome Row
+entryAs (Known r) = done r
+entryAs Unknown = refused 6
+
+-- The column of casts: all three; one lamp; a first address, which is named as one lamp, or everyone.
+abbrev pub castListed : Casts → Cast → Bool
+castListed All cast = true
+castListed Single Everyone = false
+castListed Single (One a) = true
+castListed Single (Group g) = false
+castListed First Everyone = true
+castListed First (One a) = true
+castListed First (Group g) = false
+
+-- The payload size is right for the command.
+abbrev pub payloadFits : Row → ℕ → Bool
+payloadFits r size = eqb size (r .payload)
+
+-- How many bytes the table has for the payload of a number.
+abbrev pub payloadSizeOf : ℕ → Outcome ℕ
+payloadSizeOf n = after (rowOf n) (λ (r : Row). done (r .payload))
+
+-- How many bytes the table has for the answer to a number.
+abbrev pub answerSizeOf : ℕ → Outcome ℕ
+answerSizeOf n = after (rowOf n) (λ (r : Row). done (r .answer))
+
+-- A command or an answer in document 01's numbers: the number of the table and the values of its fields.
+pub record Message : Type 0 where
+  pub number : ℕ
+  pub fields : List ℕ
+
+-- The message with a number and fields.
+abbrev pub numbered : ℕ → List ℕ → Message
+numbered n f = record { number = n; fields = f }
+
+-- Each command of the table, with its number and the values that it carries.
+abbrev pub messageOf : Command → Message
+messageOf Reset = numbered 0x00 []
+messageOf ClearError = numbered 0x01 []
+messageOf InitBidir = numbered 0x02 []
+messageOf InitLoop = numbered 0x03 []
+messageOf GoSleep = numbered 0x04 []
+messageOf GoActive = numbered 0x05 []
+messageOf GoDeepSleep = numbered 0x06 []
+messageOf Identify = numbered 0x07 []
+messageOf ReadMult = numbered 0x0C []
+messageOf (SetMult mask) = numbered 0x0D (mask ∷ [])
+messageOf ReadStatus = numbered 0x40 []
+messageOf ReadTempStatus = numbered 0x42 []
+messageOf ReadTemp = numbered 0x48 []
+messageOf ReadThresholds = numbered 0x4A []
+messageOf (SetThresholds x y z) = numbered 0x4B (x ∷ y ∷ z ∷ [])
+messageOf ReadSetup = numbered 0x4C []
+messageOf (SetSetup x) = numbered 0x4D (x ∷ [])
+messageOf ReadPwm = numbered 0x4E []
+messageOf (SetPwm r g b) = numbered 0x4F (pwmFields r g b)
+
+-- A dissected telegram names the command, its cast and its fields.
+pub record Sent : Type 0 where
+  pub message : Message
+  pub cast : Cast
+
+-- The dissector's answer: the number of its refusal, or done with the command's number, its fields and its cast.
+abbrev pub dissectionAs : Dissection → Outcome Sent
+dissectionAs (Accepted d) = done (record { message = messageOf (d .command); cast = d .cast })
+dissectionAs (Refused e) = refused (numberOf e)
+
+-- Of a row and a cast: 7 for a cast that the table doesn't list, then 8.
+abbrev pub fitting : List ℕ → Telegram → Row → Cast → Outcome Sent
+fitting s t r cast =
+    refuse (not (castListed (r .casts) cast)) 7
+    (refuse (not (payloadFits r (t .size))) 8
+    (done (record { message = numbered (t .command) (fieldsBy (layoutOf (t .command)) (payloadIn s (t .size))); cast = cast })))
+
+-- Behind the reader: 6, 7, 8 as numbered.
+unfoldable pub naming : List ℕ → Telegram → Outcome Sent
+naming s t = after (rowOf (t .command)) (λ (r : Row). after (destination (t .address .0)) (fitting s t r))
+
+-- The command dissector: 1 to 8.
+unfoldable pub dissecting : List ℕ → Outcome Sent
+dissecting s = after (reading s) (naming s)
+
+-- The payload of a command.
+abbrev pub payloadOf : Message → List ℕ
+payloadOf m = payloadBy (layoutOf (m .number)) (m .fields)
+
+-- A command from its number and the bytes of its payload: 6, then 8.
+unfoldable pub composing : ℕ → List ℕ → Outcome Message
+composing n p =
+    after (rowOf n) (λ (r : Row). refuse (not (payloadFits r (length p))) 8 (done (numbered n (fieldsBy (layoutOf n) p))))
+
+-- The code's answer: the number of its refusal, or done with the command.
+abbrev pub composedAs : Composed → Outcome Message
+composedAs (Command-accepted c) = done (messageOf c)
+composedAs (Command-refused e) = refused (numberOf e)
+
+-- The table lists the cast for the command.
+abbrev pub listsCast : Outcome Row → Cast → Bool
+listsCast (done r) cast = castListed (r .casts) cast
+listsCast (refused n) cast = false
+
+-- The command builder, of a command, its cast and the length of the room: 10, 7, 9.
+unfoldable pub buildingCommand : Message → Cast → ℕ → Outcome (List ℕ)
+buildingCommand m cast room =
+    refuse (not (castInRange cast)) 10
+    (refuse (not (dutiesInRange (layoutOf (m .number)) (m .fields))) 10
+    (refuse (not (listsCast (rowOf (m .number)) cast)) 7
+    (refuse (ltb room (4 + length (payloadOf m))) 9
+    (done (telegramOf (addressOf cast) (m .number) (payloadOf m))))))
+
+-- A message as the code lays it out: number, payload with zeros up to 8 bytes, payload size, and whether its duties are in range.
+abbrev pub partsBy : Layout → Message → Parts
+partsBy l m =
+    record {
+      number = m .number;
+      bytes = payloadBy l (m .fields) ++ replicate (8 - length (payloadBy l (m .fields))) 0;
+      size = length (payloadBy l (m .fields));
+      fit = dutiesInRange l (m .fields);
+    }
+
+-- A command laid out.
+abbrev pub laidOut : Message → Parts
+laidOut m = partsBy (layoutOf (m .number)) m

@@ -1,0 +1,5 @@
+pub mod Casts
+pub mod Fields
+pub mod Commands
+pub mod Answers
+pub mod Marked

@@ -1,0 +1,41 @@
+-- `osp::give` meets its contract.
+-- Assumes nothing.
+use mathlib.Core.Path.{_≡_, refl, ap}
+use mathlib.Core.List.{_++_}
+use Prim.Native.Nat.{ℕ, _+_, _*_, _%_}
+use native.Mathlib.Omega.{arith}
+use borrow.Author.Needs.{needs}
+use lib.ListN.{length, length-append}
+use Rattle.osp.specs.Interface.{returned}
+use Rattle.telegram.proofs.Outcomes.{told-refused, told-done}
+use Rattle.osp.proofs.Giving.{fit-small, fit-done, two-copies}
+use Rattle.osp.proofs.give.Statement.{statement}
+use Rattle.osp.proofs.give.Tie as tie
+
+pub give-spec : {M : Type 1} → statement M
+give-spec =
+    tie.close
+    (tie.spec
+    (λ c. search needs)
+    (λ c.
+    let a = c .before .before .before .before .args in
+    told-refused returned _ _ (fit-small _ (a .head .now ++ a .payload .now) (simp length-append (c .if1 .taken))) refl)
+    (λ c κs. search needs)
+    (λ c. search needs)
+    (λ c. search needs)
+    (λ c. search needs)
+    (λ c κs. search needs)
+    (λ c. search needs)
+    (λ c. search needs)
+    (λ c. search needs)
+    (λ c.
+    let k = c .before .before .before .before .before .before in
+    let t = k .before .before in
+    let a = t .before .before .before .before .args in
+    let h = a .head .now in
+    let p = a .payload .now in
+    let n : (length h + length p) % 65536 ≡ length h + length p = omega (arith, t .before .before .before .before .pre) in
+    told-done returned _ _
+    (fit-done _ (h ++ p) (simp length-append (t .if1 .left)))
+    (ap (λ (x : ℕ). x * 256) (simp length-append n))
+    (two-copies h p (a .out .now) (t .if1 .left) (k .copy .ensures .1) (c .before .before .copy2 .ensures .1))))

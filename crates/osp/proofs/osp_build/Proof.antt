@@ -1,0 +1,25 @@
+-- `osp::osp_build` meets its contract.
+-- Assumes nothing.
+use mathlib.Core.Path.{_≡_, _∙_, refl}
+use borrow.Author.Needs.{needs}
+use Rattle.telegram.proofs.Outcomes.{told-refused, told-same}
+use Rattle.telegram.proofs.Building.{build-address, build-command}
+use Rattle.osp.specs.Interface.{returned}
+use Rattle.osp.proofs.Giving.{built-returns, built-short}
+use Rattle.osp.proofs.osp_build.Statement.{statement}
+use Rattle.osp.proofs.osp_build.Tie as tie
+
+pub osp-build-spec : {M : Type 1} → statement M
+osp-build-spec =
+    tie.close
+    (tie.spec
+    (λ c. told-refused returned _ _ (build-address _ _ _ _ (c .if1 .taken)) refl)
+    (λ c. told-refused returned _ _ (build-command _ _ _ _ (c .before .if1 .left) (c .if2 .taken)) refl)
+    (λ c. search needs)
+    (λ c. search needs)
+    (λ c κs. tt)
+    (λ c κs. tt)
+    (λ c. search needs)
+    (λ c.
+    let b = c .before .before .before in
+    (c .built-returned .ensures ∙ built-returns (b .build-telegram .result) _ (b .build-telegram .ensures .0) (built-short _ _ _ _), b .build-telegram .ensures .1)))

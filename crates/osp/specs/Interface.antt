@@ -1,0 +1,108 @@
+-- The C interface over numbers and byte slices: what each function returns and what it leaves in the lent room.
+-- Assumes nothing.
+use Prim.Native.Nat.{ℕ, _*_, _/_, _%_}
+use mathlib.Core.Bool.{Bool, cond, not, _&&_}
+use mathlib.Core.List.{List, [], _∷_, _++_}
+use lib.Dec.{eqb, leb, ltb}
+use lib.ListN.{length}
+use Rattle.telegram.specs.Numbers.{Outcome, refused, done, refuse, after, numberOf}
+use Rattle.telegram.specs.Telegram.{reading, payloadIn}
+use Rattle.telegram.specs.declared.Telegram.{Telegram}
+use Rattle.telegram.specs.declared.Built.{Built}
+use Rattle.telegram.specs.declared.Built.the-variants.{Done, Refused}
+use Rattle.command.specs.Casts.{castKind, castValue}
+use Rattle.command.specs.Commands.{Message, numbered, messageOf, Sent, payloadOf, dissecting, composing, buildingCommand}
+use Rattle.command.specs.Answers.{Reply, answerMessageOf, answerPayloadOf, dissectingAnswer}
+use Rattle.command.specs.declared.Dissected.{Dissected}
+use Rattle.command.specs.declared.Answered.{Answered}
+use Rattle.command.specs.declared.Cast.{Cast}
+use Rattle.command.specs.declared.Cast.the-variants.{Everyone, One, Group}
+use Rattle.osp.specs.declared.Directed.{Directed}
+use Rattle.osp.specs.declared.Directed.the-variants.{To, OutOfRange}
+
+-- What a function returns: number + 256 × count, the count being the bytes written, 0 on refusal.
+abbrev pub returned : Outcome (List ℕ) → ℕ
+returned (refused n) = n
+returned (done s) = length s * 256
+
+-- A builder's answer as it is returned, of a count below 65,536.
+abbrev pub builtReturned : Built → ℕ
+builtReturned (Done n) = n % 65536 * 256
+builtReturned (Refused e) = numberOf e
+
+-- A result for which the room is too small: 9.
+abbrev pub fitted : ℕ → List ℕ → Outcome (List ℕ)
+fitted room s = refuse (ltb room (length s)) 9 (done s)
+
+-- A number of two bytes, high byte first.
+abbrev pub twoBytes : ℕ → List ℕ
+twoBytes n = n / 256 ∷ n % 256 ∷ []
+
+-- `osp_read` writes the address (2), command, payload size, payload.
+abbrev pub readBytes : List ℕ → Telegram → List ℕ
+readBytes s t = twoBytes (t .address .0) ++ (t .command ∷ t .size ∷ []) ++ payloadIn s (t .size)
+
+-- `osp_read`: 1 to 5, then 9.
+unfoldable pub osp-read : List ℕ → ℕ → Outcome (List ℕ)
+osp-read s room = after (reading s) (λ (t : Telegram). fitted room (readBytes s t))
+
+-- A dissected command of the code in document 01's numbers.
+abbrev pub sentAs : Dissected → Sent
+sentAs d = record { message = messageOf (d .command); cast = d .cast }
+
+-- A dissected answer of the code in document 01's numbers.
+abbrev pub replyOf : Answered → Reply
+replyOf d = record { address = d .address .0; message = answerMessageOf (d .answer) }
+
+-- `osp_dissect` writes the command, cast (0 everyone, 1 one lamp, 2 group), address or group (2), payload size, payload.
+abbrev pub sentBytes : Sent → List ℕ
+sentBytes m =
+    (m .message .number ∷ castKind (m .cast) ∷ []) ++ twoBytes (castValue (m .cast)) ++ (length (payloadOf (m .message)) ∷ [])
+    ++ payloadOf (m .message)
+
+-- `osp_dissect`: 1 to 8, then 9.
+unfoldable pub osp-dissect : List ℕ → ℕ → Outcome (List ℕ)
+osp-dissect s room = after (dissecting s) (λ (m : Sent). fitted room (sentBytes m))
+
+-- `osp_dissect_answer` writes the command, address (2), answer size, answer bytes.
+abbrev pub replyBytes : Reply → List ℕ
+replyBytes a =
+    (a .message .number ∷ []) ++ twoBytes (a .address) ++ (length (answerPayloadOf (a .message)) ∷ []) ++ answerPayloadOf (a .message)
+
+-- `osp_dissect_answer`: 1 to 8, then 9.
+unfoldable pub osp-dissect-answer : List ℕ → ℕ → Outcome (List ℕ)
+osp-dissect-answer s room = after (dissectingAnswer s) (λ (a : Reply). fitted room (replyBytes a))
+
+-- A cast from its two numbers: 10 for a kind above 2 and for a value outside the kind's range. Everyone has the value 0.
+unfoldable pub directing : ℕ → ℕ → Outcome Cast
+directing kind value =
+    cond (eqb kind 0) (refuse (not (eqb value 0)) 10 (done Everyone))
+    (cond (eqb kind 1) (refuse (not (leb 1 value && leb value 0x3EF)) 10 (done (One (record { 0 = value }))))
+    (cond (eqb kind 2) (refuse (not (leb value 14)) 10 (done (Group value)))
+    (refused 10)))
+
+-- The code's answer: to a cast, or out of range, which is 10.
+abbrev pub directedAs : Directed → Outcome Cast
+directedAs (To cast) = done cast
+directedAs OutOfRange = refused 10
+
+-- The command builder for a cast in two numbers: 10, 7, 9.
+unfoldable pub building-directed : Message → ℕ → ℕ → ℕ → Outcome (List ℕ)
+building-directed m kind value room = after (directing kind value) (λ (cast : Cast). buildingCommand m cast room)
+
+-- `osp_build_command`: 6 and 8 for what names no command, then 10, 7, 9.
+unfoldable pub osp-build-command : ℕ → ℕ → ℕ → List ℕ → ℕ → Outcome (List ℕ)
+osp-build-command command kind value p room = after (composing command p) (λ (m : Message). building-directed m kind value room)
+
+-- SETPWM in numbers; modes is a sum of 4 for red, 2 for green and 1 for blue in daytime mode.
+abbrev pub pwmMessage : ℕ → ℕ → ℕ → ℕ → Message
+pwmMessage modes r g b = numbered 0x4F (modes / 4 % 2 ∷ r ∷ modes / 2 % 2 ∷ g ∷ modes % 2 ∷ b ∷ [])
+
+-- `osp_build_pwm`: 10 for modes above 7, a duty above 32,767 and a cast out of range, then 9.
+unfoldable pub osp-build-pwm : ℕ → ℕ → ℕ → ℕ → ℕ → ℕ → ℕ → Outcome (List ℕ)
+osp-build-pwm kind value modes r g b room =
+    refuse (ltb 7 modes) 10
+    (refuse (ltb 32767 r) 10
+    (refuse (ltb 32767 g) 10
+    (refuse (ltb 32767 b) 10
+    (building-directed (pwmMessage modes r g b) kind value room))))

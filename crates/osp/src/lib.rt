@@ -1,0 +1,317 @@
+// The C interface: thin exported functions over numbers and byte slices. include/osp.h has their declarations.
+use command::AnswerDissection;
+use command::Answered;
+use command::Cast;
+use command::Command;
+use command::Composed;
+use command::Dissected;
+use command::Dissection;
+use command::Pwm;
+use telegram::Address;
+use telegram::Built;
+use telegram::Read;
+use telegram::Refusal;
+use telegram::Telegram;
+ghost use mathlib.Core.Path.{_≡_};
+ghost use Prim.Native.Nat.{_+_, _*_, _/_, _%_, _≤_, _<_};
+ghost use mathlib.Core.List.{_++_};
+ghost use lib.ListN.{length};
+ghost use Rattle.checksum.specs.Checksum.{checksumOf};
+ghost use Rattle.telegram.specs.Numbers.{numberOf, leaves};
+ghost use Rattle.telegram.specs.Telegram.{building};
+ghost use Rattle.command.specs.Casts.{castKind, castValue};
+ghost use Rattle.command.specs.Fields.{modeOf};
+ghost use Rattle.command.specs.Commands.{messageOf};
+ghost use Rattle.osp.specs.Interface.{returned, builtReturned, fitted, readBytes, osp-read, sentAs, sentBytes, osp-dissect, replyOf, replyBytes, osp-dissect-answer, directing, directedAs, building-directed, osp-build-command, osp-build-pwm};
+
+// A cast from two numbers.
+pub enum Directed {
+    To(Cast),
+    OutOfRange,
+}
+
+// The number of a refusal as it is returned.
+fn refusal_returned(e: Refusal) -> u32
+    ensures { λ r. ⌜ r ≡ numberOf e ⌝ }
+{
+    telegram::refusal_number(e) as u32
+}
+
+// A builder's answer as it is returned.
+fn built_returned(b: Built) -> u32
+    ensures { λ r. ⌜ r ≡ builtReturned b ⌝ }
+{
+    match b {
+        Built::Done(n) => (n % 65536) as u32 * 256,
+        Built::Refused(e) => refusal_returned(e),
+    }
+}
+
+// Writes a result, a head and a payload behind it, where there is room for both, else 9.
+fn give(head: &[u8], payload: &[u8], out: &mut [u8]) -> u32
+    requires { ⌜ length (now head) + length (now payload) < 65536 ⌝ }
+    ensures { λ r. ⌜ r ≡ returned (fitted (length (now (out .entry))) (now (head .entry) ++ now (payload .entry))) ⌝ }
+    ensures { λ r. ⌜ now (out .exit) ≡ leaves (fitted (length (now (out .entry))) (now (head .entry) ++ now (payload .entry))) (now (out .entry)) ⌝ }
+{
+    let h = head.len();
+    let n = h + payload.len();
+    if out.len() < n {
+        return 9;
+    }
+    bytes::copy(head, out);
+    bytes::copy(payload, &mut out[h..]);
+    (n % 65536) as u32 * 256
+}
+
+// The bytes of a number, high byte first.
+fn high(n: u16) -> u8
+    ensures { λ r. ⌜ r ≡ n / 256 ⌝ }
+{
+    (n / 256) as u8
+}
+
+fn low(n: u16) -> u8
+    ensures { λ r. ⌜ r ≡ n % 256 ⌝ }
+{
+    (n % 256) as u8
+}
+
+// A payload size, which is at most 8, as a byte.
+fn size_byte(n: usize) -> u8
+    ensures { λ r. ⌜ r ≡ n % 256 ⌝ }
+{
+    (n % 256) as u8
+}
+
+// The checksum of the bytes of `s`.
+#[no_mangle]
+pub extern "C" fn osp_checksum(s: &[u8]) -> u8
+    ensures { λ r. ⌜ r ≡ checksumOf (now (s .entry)) ⌝ }
+{
+    checksum::checksum(s)
+}
+
+// Gives a telegram that was read.
+fn give_telegram(s: &[u8], t: Telegram, out: &mut [u8]) -> u32
+    requires { ⌜ (3 + t .size ≤ length (now s)) × (t .size ≤ 8) ⌝ }
+    ensures { λ r. ⌜ r ≡ returned (fitted (length (now (out .entry))) (readBytes (now (s .entry)) t)) ⌝ }
+    ensures { λ r. ⌜ now (out .exit) ≡ leaves (fitted (length (now (out .entry))) (readBytes (now (s .entry)) t)) (now (out .entry)) ⌝ }
+{
+    let address = t.address;
+    let a = address.0;
+    let size = t.size;
+    let head = [high(a), low(a), t.command, size_byte(size)];
+    let end = 3 + size;
+    give(&head, &s[3..end], out)
+}
+
+// Gives a dissected command.
+fn give_command(d: Dissected, out: &mut [u8]) -> u32
+    ensures { λ r. ⌜ r ≡ returned (fitted (length (now (out .entry))) (sentBytes (sentAs d))) ⌝ }
+    ensures { λ r. ⌜ now (out .exit) ≡ leaves (fitted (length (now (out .entry))) (sentBytes (sentAs d))) (now (out .entry)) ⌝ }
+{
+    let command = d.command;
+    let parts = command::command_parts(command);
+    let cast = d.cast;
+    let value = value_of(cast);
+    let size = parts.size;
+    let bytes = parts.bytes;
+    let head = [
+        parts.number,
+        kind_of(cast),
+        high(value),
+        low(value),
+        size_byte(size),
+    ];
+    give(&head, &bytes[..size], out)
+}
+
+// Gives a dissected answer.
+fn give_answer(d: Answered, out: &mut [u8]) -> u32
+    ensures { λ r. ⌜ r ≡ returned (fitted (length (now (out .entry))) (replyBytes (replyOf d))) ⌝ }
+    ensures { λ r. ⌜ now (out .exit) ≡ leaves (fitted (length (now (out .entry))) (replyBytes (replyOf d))) (now (out .entry)) ⌝ }
+{
+    let answer = d.answer;
+    let parts = command::answer_parts(answer);
+    let address = d.address;
+    let a = address.0;
+    let size = parts.size;
+    let bytes = parts.bytes;
+    let head = [parts.number, high(a), low(a), size_byte(size)];
+    give(&head, &bytes[..size], out)
+}
+
+// A cast in two numbers.
+fn kind_of(cast: Cast) -> u8
+    ensures { λ r. ⌜ r ≡ castKind cast ⌝ }
+{
+    match cast {
+        Cast::Everyone => 0,
+        Cast::One(_) => 1,
+        Cast::Group(_) => 2,
+    }
+}
+
+fn value_of(cast: Cast) -> u16
+    ensures { λ r. ⌜ r ≡ castValue cast ⌝ }
+{
+    match cast {
+        Cast::Everyone => 0,
+        Cast::One(a) => a.0,
+        Cast::Group(g) => g as u16,
+    }
+}
+
+// The telegram reader: 1 to 5, then 9.
+#[no_mangle]
+pub extern "C" fn osp_read(s: &[u8], out: &mut [u8]) -> u32
+    ensures { λ r. ⌜ r ≡ returned (osp-read (now (s .entry)) (length (now (out .entry)))) ⌝ }
+    ensures { λ r. ⌜ now (out .exit) ≡ leaves (osp-read (now (s .entry)) (length (now (out .entry)))) (now (out .entry)) ⌝ }
+{
+    let r = telegram::read_telegram(s);
+    let Read::Accepted(t) = r else {
+        return refusal_returned(telegram::refusal_of(r));
+    };
+    give_telegram(s, t, out)
+}
+
+// The command dissector: 1 to 8, then 9.
+#[no_mangle]
+pub extern "C" fn osp_dissect(s: &[u8], out: &mut [u8]) -> u32
+    ensures { λ r. ⌜ r ≡ returned (osp-dissect (now (s .entry)) (length (now (out .entry)))) ⌝ }
+    ensures { λ r. ⌜ now (out .exit) ≡ leaves (osp-dissect (now (s .entry)) (length (now (out .entry)))) (now (out .entry)) ⌝ }
+{
+    let r = command::dissect(s);
+    match r {
+        Dissection::Accepted(d) => give_command(d, out),
+        Dissection::Refused(e) => refusal_returned(e),
+    }
+}
+
+// The answer dissector: 1 to 8, then 9.
+#[no_mangle]
+pub extern "C" fn osp_dissect_answer(s: &[u8], out: &mut [u8]) -> u32
+    ensures { λ r. ⌜ r ≡ returned (osp-dissect-answer (now (s .entry)) (length (now (out .entry)))) ⌝ }
+    ensures { λ r. ⌜ now (out .exit) ≡ leaves (osp-dissect-answer (now (s .entry)) (length (now (out .entry)))) (now (out .entry)) ⌝ }
+{
+    let r = command::dissect_answer(s);
+    match r {
+        AnswerDissection::Accepted(a) => give_answer(a, out),
+        AnswerDissection::Refused(e) => refusal_returned(e),
+    }
+}
+
+// The raw builder: 10, then 9.
+#[no_mangle]
+pub extern "C" fn osp_build(address: u32, command: u32, payload: &[u8], out: &mut [u8]) -> u32
+    ensures { λ r. ⌜ r ≡ returned (building address command (now (payload .entry)) (length (now (out .entry)))) ⌝ }
+    ensures { λ r. ⌜ now (out .exit) ≡ leaves (building address command (now (payload .entry)) (length (now (out .entry)))) (now (out .entry)) ⌝ }
+{
+    if 1023 < address {
+        return 10;
+    }
+    if 127 < command {
+        return 10;
+    }
+    let r = telegram::build_telegram(Address(address as u16), command as u8, payload, out);
+    built_returned(r)
+}
+
+// A cast from its two numbers.
+fn cast_from(kind: u32, value: u32) -> Directed
+    ensures { λ r. ⌜ directedAs r ≡ directing kind value ⌝ }
+{
+    match kind {
+        0 => match value {
+            0 => Directed::To(Cast::Everyone),
+            _ => Directed::OutOfRange,
+        },
+        1 => match value {
+            0x001..=0x3EF => Directed::To(Cast::One(Address(value as u16))),
+            _ => Directed::OutOfRange,
+        },
+        2 => match value {
+            0..=14 => Directed::To(Cast::Group(value as u8)),
+            _ => Directed::OutOfRange,
+        },
+        _ => Directed::OutOfRange,
+    }
+}
+
+// The command builder, of a command's number, its cast in two numbers and the bytes of its payload: 6, 8, then 10, 7, 9.
+#[no_mangle]
+pub extern "C" fn osp_build_command(
+    command: u32,
+    cast: u32,
+    value: u32,
+    payload: &[u8],
+    out: &mut [u8],
+) -> u32
+    ensures { λ r. ⌜ r ≡ returned (osp-build-command command cast value (now (payload .entry)) (length (now (out .entry)))) ⌝ }
+    ensures { λ r. ⌜ now (out .exit) ≡ leaves (osp-build-command command cast value (now (payload .entry)) (length (now (out .entry)))) (now (out .entry)) ⌝ }
+{
+    if 127 < command {
+        return 6;
+    }
+    let composed = command::compose(command as u8, payload);
+    match composed {
+        Composed::Accepted(c) => build_directed(c, cast, value, out),
+        Composed::Refused(e) => refusal_returned(e),
+    }
+}
+
+// Builds a command for a cast in two numbers: 10, 7, 9.
+fn build_directed(c: Command, kind: u32, value: u32, out: &mut [u8]) -> u32
+    ensures { λ r. ⌜ r ≡ returned (building-directed (messageOf c) kind value (length (now (out .entry)))) ⌝ }
+    ensures { λ r. ⌜ now (out .exit) ≡ leaves (building-directed (messageOf c) kind value (length (now (out .entry)))) (now (out .entry)) ⌝ }
+{
+    let to = cast_from(kind, value);
+    let Directed::To(cast) = to else {
+        return 10;
+    };
+    let r = command::build_command(c, cast, out);
+    built_returned(r)
+}
+
+// A PWM word from its mode, 0 or 1, and a duty in range.
+fn pwm_from(mode: u32, duty: u32) -> Pwm
+    requires { ⌜ duty ≤ 32767 ⌝ }
+    ensures { λ r. ⌜ (modeOf r ≡ mode % 2) × (r .duty ≡ duty) ⌝ }
+{
+    Pwm {
+        day: mode % 2 == 1,
+        duty: duty as u16,
+    }
+}
+
+// SETPWM from its fields, `modes` a sum of 4 for red, 2 for green and 1 for blue in daytime mode: 10, then 9.
+#[no_mangle]
+pub extern "C" fn osp_build_pwm(
+    cast: u32,
+    value: u32,
+    modes: u32,
+    red: u32,
+    green: u32,
+    blue: u32,
+    out: &mut [u8],
+) -> u32
+    ensures { λ r. ⌜ r ≡ returned (osp-build-pwm cast value modes red green blue (length (now (out .entry)))) ⌝ }
+    ensures { λ r. ⌜ now (out .exit) ≡ leaves (osp-build-pwm cast value modes red green blue (length (now (out .entry)))) (now (out .entry)) ⌝ }
+{
+    if 7 < modes {
+        return 10;
+    }
+    if 32767 < red {
+        return 10;
+    }
+    if 32767 < green {
+        return 10;
+    }
+    if 32767 < blue {
+        return 10;
+    }
+    let r = pwm_from(modes / 4, red);
+    let g = pwm_from(modes / 2, green);
+    let b = pwm_from(modes, blue);
+    build_directed(Command::SetPwm(r, g, b), cast, value, out)
+}

@@ -1,0 +1,5 @@
+pub mod Outcomes
+pub mod Reading
+pub mod Front
+pub mod Building
+pub mod RoundTrip

@@ -1,0 +1,60 @@
+-- Document 01, "Numbers given back": what a call gives back, and which number each refusal has.
+-- Assumes nothing.
+use Prim.Native.Nat.{ℕ}
+use mathlib.Core.Bool.{Bool, true, false}
+use mathlib.Core.List.{List, _++_}
+use lib.ListN.{length, drop}
+use Rattle.telegram.specs.declared.Refusal.{Refusal}
+use Rattle.telegram.specs.declared.Refusal.the-variants.{TooShort, Preamble, SizeIndex, ByteCount, Checksum, UnknownCommand, CastNotAllowed, PayloadSize, RoomTooSmall, OutOfRange, NoChain, InitPastEnd, NoLamp}
+use Rattle.telegram.specs.declared.Built.{Built}
+use Rattle.telegram.specs.declared.Built.the-variants.{Done, Refused}
+
+-- What a call gives back: a refusal with its number of the table, or done (number 0) with a value.
+pub data Outcome (A : Type 0) : Type 0 where
+  refused : ℕ → Outcome A
+  done : A → Outcome A
+
+-- One line of an order of tests: where the test holds the number is given back, else the rest decides.
+abbrev pub refuse : {A : Type 0} → Bool → ℕ → Outcome A → Outcome A
+refuse true n rest = refused n
+refuse false n rest = rest
+
+-- What is refused goes no further; what is done goes on.
+abbrev pub after : {A B : Type 0} → Outcome A → (A → Outcome B) → Outcome B
+after (refused n) next = refused n
+after (done a) next = next a
+
+-- The table: the number of each refusal.
+abbrev pub numberOf : Refusal → ℕ
+numberOf TooShort = 1
+numberOf Preamble = 2
+numberOf SizeIndex = 3
+numberOf ByteCount = 4
+numberOf Checksum = 5
+numberOf UnknownCommand = 6
+numberOf CastNotAllowed = 7
+numberOf PayloadSize = 8
+numberOf RoomTooSmall = 9
+numberOf OutOfRange = 10
+numberOf NoChain = 11
+numberOf InitPastEnd = 12
+numberOf NoLamp = 13
+
+-- A builder's answer: the number of its refusal, or done with how many bytes it wrote.
+abbrev pub builtAs : Built → Outcome ℕ
+builtAs (Done n) = done n
+builtAs (Refused e) = refused (numberOf e)
+
+-- How many bytes an outcome that is bytes has.
+abbrev pub counted : Outcome (List ℕ) → Outcome ℕ
+counted (refused n) = refused n
+counted (done s) = done (length s)
+
+-- Bytes written to the front of a lent room; the bytes past the last written one stay.
+abbrev pub front : List ℕ → List ℕ → List ℕ
+front s room = s ++ drop (length s) room
+
+-- The lent room after an outcome that is bytes: a refusal leaves it as it was.
+abbrev pub leaves : Outcome (List ℕ) → List ℕ → List ℕ
+leaves (refused n) room = room
+leaves (done s) room = front s room

@@ -1,0 +1,178 @@
+//! Times the static library and the second implementation on the same inputs,
+//! in turns: `bench` prints a table, `bench once NAME SIDE` makes a fixed
+//! number of calls of one workload on one side.
+
+use reference::wire::{Side, REFERENCE};
+use sides::library::LIBRARY;
+use sides::material::{destination, fitting, KNOWN, SETPWM};
+use sides::random::Random;
+use std::env;
+use std::hint::black_box;
+use std::process::ExitCode;
+use std::time::Instant;
+
+/// Measured turns of each side; the median is printed.
+const TURNS: usize = 151;
+/// Turns of a workload that is run alone.
+const ONCE: usize = 10;
+/// What SETPWM carries, and the same as modes and duties.
+const WORDS: [u8; 6] = [0x12, 0x34, 0x80, 0x00, 0xFF, 0xFF];
+const MODES: u32 = 3;
+const DUTIES: [u32; 3] = [0x1234, 0, 0x7FFF];
+
+/// What is called.
+enum Job {
+    Checksum(Vec<u8>),
+    Read(Vec<u8>),
+    Dissect(Vec<Vec<u8>>),
+    Build,
+    BuildCommand,
+    BuildPwm,
+}
+
+/// A named job and how often it is repeated in one turn.
+struct Workload {
+    name: &'static str,
+    job: Job,
+    repeats: usize,
+}
+
+/// Repeats a call so that none can be left out.
+fn repeat(times: usize, mut call: impl FnMut() -> u32) {
+    for _ in 0..times {
+        black_box(call());
+    }
+}
+
+impl Workload {
+    /// One turn on one side.
+    fn turn(&self, side: &Side) {
+        let side = black_box(side);
+        let mut room = [0; 16];
+        let room = &mut room[..];
+        let times = self.repeats;
+        match &self.job {
+            Job::Checksum(bytes) => {
+                repeat(times, || u32::from((side.checksum)(black_box(bytes))));
+            }
+            Job::Read(bytes) => repeat(times, || (side.read)(black_box(bytes), black_box(room))),
+            Job::Dissect(set) => repeat(times, || {
+                set.iter().fold(0, |last, bytes| {
+                    last ^ (side.dissect)(black_box(bytes), black_box(room))
+                })
+            }),
+            Job::Build => repeat(times, || {
+                (side.build)(black_box(5), SETPWM, black_box(&WORDS), black_box(room))
+            }),
+            Job::BuildCommand => repeat(times, || {
+                (side.build_command)(SETPWM, 1, black_box(5), black_box(&WORDS), black_box(room))
+            }),
+            Job::BuildPwm => repeat(times, || {
+                let (lamp, modes, [red, green, blue]) = black_box((5, MODES, DUTIES));
+                (side.build_pwm)(1, lamp, modes, red, green, blue, black_box(room))
+            }),
+        }
+    }
+
+    /// The calls made in one turn.
+    fn calls(&self) -> usize {
+        match &self.job {
+            Job::Dissect(set) => set.len() * self.repeats,
+            _ => self.repeats,
+        }
+    }
+
+    /// Nanoseconds per call in one turn.
+    fn measure(&self, side: &Side) -> f64 {
+        let start = Instant::now();
+        self.turn(side);
+        start.elapsed().as_nanos() as f64 / self.calls() as f64
+    }
+}
+
+/// A telegram of every command in each of its casts.
+fn mixed(random: &mut Random) -> Vec<Vec<u8>> {
+    let mut set = Vec::new();
+    for known in KNOWN {
+        for (cast, value) in known.casts(random) {
+            let payload = random.bytes(known.payload);
+            set.push(fitting(destination(cast, value), known.number, &payload));
+        }
+    }
+    set
+}
+
+/// All the workloads.
+fn workloads() -> [Workload; 8] {
+    let mut random = Random::new(1);
+    let setpwm = fitting(5, SETPWM, &WORDS);
+    let longest = fitting(1, SETPWM, &random.bytes(8));
+    let of = |name, repeats, job| Workload { name, job, repeats };
+    [
+        of("checksum-64k", 4, Job::Checksum(random.bytes(65_536))),
+        of("checksum-11", 20_000, Job::Checksum(random.bytes(11))),
+        of("read-12", 20_000, Job::Read(longest)),
+        of("dissect-setpwm", 20_000, Job::Dissect(vec![setpwm])),
+        of("dissect-mixed", 600, Job::Dissect(mixed(&mut random))),
+        of("build-setpwm", 20_000, Job::Build),
+        of("build-command-setpwm", 20_000, Job::BuildCommand),
+        of("build-pwm", 20_000, Job::BuildPwm),
+    ]
+}
+
+/// The middle one of some measures.
+fn median(mut measures: Vec<f64>) -> f64 {
+    measures.sort_by(f64::total_cmp);
+    measures[measures.len() / 2]
+}
+
+/// Measures every workload, the two sides in turns, and prints the table.
+fn table() {
+    println!("workload               library ns  reference ns  ratio");
+    for workload in workloads() {
+        let (mut library, mut reference) = (Vec::new(), Vec::new());
+        for _ in 0..TURNS {
+            library.push(workload.measure(&LIBRARY));
+            reference.push(workload.measure(&REFERENCE));
+        }
+        let (library, reference) = (median(library), median(reference));
+        let ratio = library / reference;
+        let name = workload.name;
+        println!("{name:21} {library:>11.1} {reference:>13.1} {ratio:>6.2}");
+    }
+}
+
+/// Makes a fixed number of turns of one workload on one side.
+fn once(name: &str, side: &str) -> Result<(), String> {
+    let side = [&LIBRARY, &REFERENCE]
+        .into_iter()
+        .find(|known| known.name == side)
+        .ok_or(format!("no such side: {side}"))?;
+    let workload = workloads()
+        .into_iter()
+        .find(|workload| workload.name == name)
+        .ok_or(format!("no such workload: {name}"))?;
+    for _ in 0..ONCE {
+        workload.turn(side);
+    }
+    println!("{name} on {}: {} calls", side.name, ONCE * workload.calls());
+    Ok(())
+}
+
+fn main() -> ExitCode {
+    let arguments: Vec<String> = env::args().skip(1).collect();
+    let arguments: Vec<&str> = arguments.iter().map(String::as_str).collect();
+    let outcome = match arguments[..] {
+        [] => {
+            table();
+            Ok(())
+        }
+        ["once", name, side] => once(name, side),
+        _ => Err("usage: bench [once NAME library|reference]".to_string()),
+    };
+    if let Err(message) = outcome {
+        eprintln!("{message}");
+        return ExitCode::FAILURE;
+    }
+    ExitCode::SUCCESS
+}

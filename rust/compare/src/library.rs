@@ -1,0 +1,101 @@
+//! The static library behind safe wrappers.
+
+use reference::wire::Side;
+
+mod raw {
+    extern "C" {
+        pub fn osp_checksum(s: *const u8, n: usize) -> u8;
+        pub fn osp_read(s: *const u8, n: usize, out: *mut u8, room: usize) -> u32;
+        pub fn osp_build(
+            address: u32,
+            command: u32,
+            payload: *const u8,
+            n: usize,
+            out: *mut u8,
+            room: usize,
+        ) -> u32;
+        pub fn osp_dissect(s: *const u8, n: usize, out: *mut u8, room: usize) -> u32;
+        pub fn osp_dissect_answer(s: *const u8, n: usize, out: *mut u8, room: usize) -> u32;
+        pub fn osp_build_command(
+            command: u32,
+            cast: u32,
+            value: u32,
+            payload: *const u8,
+            n: usize,
+            out: *mut u8,
+            room: usize,
+        ) -> u32;
+        pub fn osp_build_pwm(
+            cast: u32,
+            value: u32,
+            modes: u32,
+            red: u32,
+            green: u32,
+            blue: u32,
+            out: *mut u8,
+            room: usize,
+        ) -> u32;
+    }
+}
+
+/// The library.
+pub static LIBRARY: Side = Side {
+    name: "library",
+    checksum,
+    read,
+    build,
+    dissect,
+    dissect_answer,
+    build_command,
+    build_pwm,
+};
+
+// Safety of every call below: a slice is valid memory of its length, the room
+// is lent for writing, and the library keeps no pointer after it returns.
+
+#[inline(never)]
+fn checksum(bytes: &[u8]) -> u8 {
+    unsafe { raw::osp_checksum(bytes.as_ptr(), bytes.len()) }
+}
+
+#[inline(never)]
+fn read(bytes: &[u8], room: &mut [u8]) -> u32 {
+    unsafe { raw::osp_read(bytes.as_ptr(), bytes.len(), room.as_mut_ptr(), room.len()) }
+}
+
+#[inline(never)]
+fn build(address: u32, command: u32, payload: &[u8], room: &mut [u8]) -> u32 {
+    let (bytes, out) = (payload.as_ptr(), room.as_mut_ptr());
+    unsafe { raw::osp_build(address, command, bytes, payload.len(), out, room.len()) }
+}
+
+#[inline(never)]
+fn dissect(bytes: &[u8], room: &mut [u8]) -> u32 {
+    unsafe { raw::osp_dissect(bytes.as_ptr(), bytes.len(), room.as_mut_ptr(), room.len()) }
+}
+
+#[inline(never)]
+fn dissect_answer(bytes: &[u8], room: &mut [u8]) -> u32 {
+    unsafe { raw::osp_dissect_answer(bytes.as_ptr(), bytes.len(), room.as_mut_ptr(), room.len()) }
+}
+
+#[inline(never)]
+fn build_command(command: u32, cast: u32, value: u32, payload: &[u8], room: &mut [u8]) -> u32 {
+    let (bytes, size) = (payload.as_ptr(), payload.len());
+    let (out, length) = (room.as_mut_ptr(), room.len());
+    unsafe { raw::osp_build_command(command, cast, value, bytes, size, out, length) }
+}
+
+#[inline(never)]
+fn build_pwm(
+    cast: u32,
+    value: u32,
+    modes: u32,
+    red: u32,
+    green: u32,
+    blue: u32,
+    room: &mut [u8],
+) -> u32 {
+    let (out, length) = (room.as_mut_ptr(), room.len());
+    unsafe { raw::osp_build_pwm(cast, value, modes, red, green, blue, out, length) }
+}

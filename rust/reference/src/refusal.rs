@@ -1,0 +1,34 @@
+//! The numbers given back.
+
+/// Why a call was refused; each value is the paper's number.
+#[derive(Clone, Copy, Debug, PartialEq, Eq)]
+#[repr(u8)]
+pub enum Refusal {
+    /// Fewer than four bytes.
+    TooShort = 1,
+    /// The first four bits are not 1010.
+    Preamble = 2,
+    /// The size index is 5.
+    SizeIndex = 3,
+    /// The byte count does not fit the size index.
+    ByteCount = 4,
+    /// The last byte is not the checksum of the others.
+    Checksum = 5,
+    /// The command is unknown, or is answered by nobody.
+    Unknown = 6,
+    /// The command does not go to such a destination.
+    Cast = 7,
+    /// The payload has the wrong size for the command.
+    PayloadSize = 8,
+    /// The room is shorter than what would be written.
+    Room = 9,
+    /// A builder's field or payload length is out of range.
+    Range = 10,
+}
+
+impl Refusal {
+    /// The paper's number.
+    pub fn number(self) -> u32 {
+        self as u32
+    }
+}
