@@ -1,13 +1,13 @@
 -- The answer dissector: a law for each of its answers, and what is known of an answer that it accepts.
 -- Callers cite these and do not unfold `namingAnswer` and `dissectingAnswer`.
 -- Assumes nothing.
-use mathlib.Core.Path.{_≡_, refl, sym, ap, _∙_}
-use mathlib.Core.Bool.{Bool, true, false, not}
+use mathlib.Core.Path.{_≡_}
+use mathlib.Core.Bool.{true, false, not}
 use mathlib.Core.List.{List}
 use Prim.Native.Nat.{ℕ}
 use lib.Dec.{eqb}
-use borrow.Author.Tests.{eq-eqb, ne-eqb, eqb-true, eqb-false, not-false}
-use Rattle.telegram.specs.Numbers.{Outcome, refused, done, after}
+use borrow.Author.Tests.{eq-eqb, ne-eqb, eqb-true, not-false}
+use Rattle.telegram.specs.Numbers.{refused, done}
 use Rattle.telegram.specs.Telegram.{reading, payloadIn}
 use Rattle.telegram.specs.declared.Telegram.{Telegram}
 use Rattle.telegram.proofs.Outcomes.{done-one, passed, went-on}
@@ -45,7 +45,6 @@ module _ (s : List ℕ) (t : Telegram) where
 pub record Replied (s : List ℕ) (t : Telegram) (a : Reply) : Type 0 where
   pub row : Row
   pub known : rowOf (t .command) ≡ done row
-  pub some : row .answer ≡ 0 → ⊥
   pub size : t .size ≡ row .answer
   pub reply : record { address = t .address .0; message = numbered (t .command) (fieldsBy (answerLayoutOf (t .command)) (payloadIn s (t .size))) } ≡ a
 
@@ -60,7 +59,6 @@ replied s t a e =
     record {
       row = r;
       known = g .1 .0;
-      some = eqb-false (r .answer) 0 (p₁ .0);
       size = eqb-true (t .size) (r .answer) (not-false _ (p₃ .0));
       reply = done-one (p₃ .1);
     }

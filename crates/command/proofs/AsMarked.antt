@@ -1,8 +1,7 @@
 -- The marked cases of document 01 hold of the written definitions: one statement, computed.
 -- Assumes nothing.
-use Prim.Native.Nat.{ℕ}
 use mathlib.Core.Path.{_≡_, refl}
-use mathlib.Core.List.{List, map}
+use mathlib.Core.List.{map}
 use Rattle.checksum.specs.Checksum.{shiftBit, remainderByte, checksumOf}
 use Rattle.telegram.specs.Telegram.{framing, reading}
 use Rattle.command.specs.Casts.{destination}

@@ -1,15 +1,15 @@
 -- The command builder: a law for each of its answers, and what is known of a telegram that it built.
 -- Callers cite these and do not unfold `buildingCommand`.
 -- Assumes nothing.
-use mathlib.Core.Path.{_≡_, _∙_, refl, sym, ap}
-use mathlib.Core.Bool.{Bool, true, false, not, _&&_}
+use mathlib.Core.Path.{_≡_, _∙_, sym}
+use mathlib.Core.Bool.{true, false}
 use mathlib.Core.List.{List}
 use Prim.Native.Nat.{ℕ, _+_, _≤_}
 use native.Mathlib.Omega.{arith}
 use lib.Dec.{leb, ltb}
 use lib.ListN.{length}
 use borrow.Author.Tests.{leb-true, not-false}
-use Rattle.telegram.specs.Numbers.{Outcome, refused, done, refuse}
+use Rattle.telegram.specs.Numbers.{refused, done, refuse}
 use Rattle.telegram.specs.Telegram.{building, telegramOf}
 use Rattle.telegram.proofs.Outcomes.{done-one, passed}
 use Rattle.telegram.proofs.Building.{Sendable, build-sendable}

@@ -1,13 +1,13 @@
 -- Addresses as destinations, and back.
 -- Assumes nothing.
 use mathlib.Core.Path.{_≡_, _∙_, refl, sym, ap, subst}
-use mathlib.Core.Bool.{Bool, true, false, cond, _&&_}
+use mathlib.Core.Bool.{Bool, true, false, cond}
 use Prim.Native.Nat.{ℕ, _+_, _-_, _≤_, _<_}
 use native.Mathlib.Omega.{arith}
 use native.Mathlib.Nat.{add-sub-cancel-left}
 use lib.Dec.{eqb, leb}
 use borrow.Author.Tests.{le-leb, lt-leb, ne-eqb, eqb-true, eqb-false, leb-true, leb-false}
-use Rattle.telegram.specs.Numbers.{Outcome, refused, done}
+use Rattle.telegram.specs.Numbers.{refused, done}
 use Rattle.telegram.proofs.Outcomes.{never, done-one}
 use Rattle.command.specs.Casts.{destination, addressOf, castInRange}
 use Rattle.command.specs.declared.Cast.{Cast}

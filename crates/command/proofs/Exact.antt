@@ -6,7 +6,6 @@ use mathlib.Core.List.{List}
 use Prim.Native.Nat.{ℕ}
 use lib.Dec.{eqb}
 use lib.ListN.{getD}
-use Rattle.command.specs.Fields.{modeOf}
 use Rattle.telegram.specs.Numbers.{done}
 use Rattle.telegram.proofs.Outcomes.{never, done-one}
 use Rattle.command.specs.Commands.{Message, messageOf, Sent, dissectionAs}

@@ -1,16 +1,16 @@
 -- Fields and payload bytes, there and back, for every layout.
 -- Assumes nothing.
 use mathlib.Core.Path.{_≡_, _∙_, refl, sym, ap, ap₂, subst}
-use mathlib.Core.Bool.{Bool, true, false, cond}
+use mathlib.Core.Bool.{true}
 use mathlib.Core.List.{List, [], _∷_, _++_}
-use Prim.Native.Nat.{ℕ, zero, suc, _+_, _*_, _/_, _%_, _≤_, _<_}
+use Prim.Native.Nat.{ℕ, zero, suc, _+_, _*_, _/_, _%_, _<_}
 use native.Mathlib.Omega.{arith}
 use lib.Dec.{leb}
 use lib.ListN.{length, getD}
 use borrow.Author.Tests.{le-leb}
 use Rattle.telegram.specs.Telegram.{Bytes}
-use Rattle.command.specs.Fields.{Layout, octets, word, long, pwm, wordAt, wordBytes, pwmAt, pwmBytes, fieldsBy, payloadBy, dutiesInRange, modeOf, pwmFields}
-use Rattle.command.specs.Commands.{Message, numbered}
+use Rattle.command.specs.Fields.{Layout, octets, word, long, pwm, wordAt, wordBytes, pwmBytes, fieldsBy, payloadBy, dutiesInRange, modeOf, pwmFields}
+use Rattle.command.specs.Commands.{numbered}
 use Rattle.command.specs.declared.Pwm.{Pwm}
 
 -- k elements of a list from an index on

@@ -2,28 +2,27 @@
 -- answer builds back through the raw builder; what is accepted for one lamp has an address 001 to 3EF.
 -- Assumes nothing.
 use mathlib.Core.Path.{_≡_, _∙_, refl, sym, ap, subst}
-use mathlib.Core.Bool.{Bool, true, false, cond, _&&_}
-use mathlib.Core.List.{List, [], _∷_}
+use mathlib.Core.Bool.{Bool, true, false, cond}
+use mathlib.Core.List.{List}
 use Prim.Native.Nat.{ℕ, _+_, _≤_, _<_}
 use native.Mathlib.Omega.{arith}
 use lib.Dec.{leb, ltb, eqb}
-use lib.ListN.{length, getD, take, drop, length-drop, List·getD-eq-default}
+use lib.ListN.{length, getD, drop, length-drop, List·getD-eq-default}
 use lib.Seq.{getD-take, getD-drop, length-take-le}
-use borrow.Author.Tests.{ltb-true, ltb-false, leb-true, eqb-true, eqb-false, ne-eqb, eq-eqb}
+use borrow.Author.Tests.{ltb-true, ltb-false, leb-true, eqb-true, eq-eqb}
 use Rattle.telegram.specs.Numbers.{Outcome, refused, done}
-use Rattle.telegram.specs.Telegram.{Bytes, reading, building, listed, telegramOf, payloadIn}
+use Rattle.telegram.specs.Telegram.{Bytes, reading, building, listed, payloadIn}
 use Rattle.telegram.specs.declared.Telegram.{Telegram}
-use Rattle.telegram.proofs.Outcomes.{never, done-one}
 use Rattle.telegram.proofs.Reading.{accepted-count}
 use Rattle.telegram.proofs.Building.{Sendable, build-done, built}
 use Rattle.telegram.proofs.RoundTrip.{read-builds, built-reads}
 use Rattle.command.specs.Casts.{addressOf, castInRange}
-use Rattle.command.specs.Fields.{Layout, octets, word, long, pwm, layoutOf, answerLayoutOf, fieldsBy, payloadBy}
+use Rattle.command.specs.Fields.{octets, word, long, pwm, layoutOf, answerLayoutOf, fieldsBy}
 use Rattle.command.specs.Commands.{Message, numbered, messageOf, Sent, rowOf, castListed, listsCast, payloadOf, payloadSizeOf, answerSizeOf, dissecting, buildingCommand}
 use Rattle.command.specs.Answers.{Reply, answerPayloadOf, dissectingAnswer}
 use Rattle.command.specs.declared.Row.{Row}
 use Rattle.command.specs.declared.Cast.{Cast}
-use Rattle.command.specs.declared.Cast.the-variants.{Everyone, One, Group}
+use Rattle.command.specs.declared.Cast.the-variants.{One}
 use Rattle.command.specs.declared.Command.{Command}
 use Rattle.telegram.specs.declared.Address.{Address}
 use Rattle.command.proofs.Both.{and-left, and-right}

@@ -13,6 +13,7 @@ use Rattle.command.specs.declared.Row.{Row}
 use Rattle.command.specs.declared.Parts.{Parts}
 use Rattle.command.specs.declared.Answer.{Answer}
 use Rattle.command.specs.declared.Answer.the-variants.{InitBidir, InitLoop, Identity, Mask, Status, TempStatus, Temp, Thresholds, Setup, Words}
+use Rattle.command.specs.declared.Answered.{Answered}
 use Rattle.command.specs.declared.AnswerDissection.{AnswerDissection}
 use Rattle.command.specs.declared.AnswerDissection.the-variants.{Accepted, Refused}
 
@@ -34,9 +35,13 @@ pub record Reply : Type 0 where
   pub address : ℕ
   pub message : Message
 
+-- A dissected answer of the code in document 01's numbers.
+abbrev pub replyOf : Answered → Reply
+replyOf a = record { address = a .address .0; message = answerMessageOf (a .answer) }
+
 -- The answer dissector's answer: the number of its refusal, or done with the reply.
 abbrev pub replyAs : AnswerDissection → Outcome Reply
-replyAs (Accepted a) = done (record { address = a .address .0; message = answerMessageOf (a .answer) })
+replyAs (Accepted a) = done (replyOf a)
 replyAs (Refused e) = refused (numberOf e)
 
 -- An answer's address is 001 to 3EF, for 02 and 03 also 000.

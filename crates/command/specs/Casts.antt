@@ -1,7 +1,7 @@
 -- Document 01, "Addresses and casts".
 -- Assumes nothing.
 use Prim.Native.Nat.{ℕ, _+_, _-_}
-use mathlib.Core.Bool.{Bool, true, false, cond, _&&_}
+use mathlib.Core.Bool.{Bool, true, cond, _&&_}
 use lib.Dec.{eqb, leb}
 use Rattle.telegram.specs.Numbers.{Outcome, refused, done}
 use Rattle.command.specs.declared.Cast.{Cast}

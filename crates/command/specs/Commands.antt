@@ -22,6 +22,7 @@ use Rattle.command.specs.declared.Command.the-variants.{Reset, ClearErro
 use Rattle.command.specs.declared.Parts.{Parts}
 use Rattle.command.specs.declared.Composed.{Composed}
 use Rattle.command.specs.declared.Composed.the-variants.{Accepted as Command-accepted, Refused as Command-refused}
+use Rattle.command.specs.declared.Dissected.{Dissected}
 use Rattle.command.specs.declared.Dissection.{Dissection}
 use Rattle.command.specs.declared.Dissection.the-variants.{Accepted, Refused}
 
@@ -112,9 +113,13 @@ pub record Sent : Type 0 where
   pub message : Message
   pub cast : Cast
 
+-- A dissected telegram of the code in document 01's numbers.
+abbrev pub sentAs : Dissected → Sent
+sentAs d = record { message = messageOf (d .command); cast = d .cast }
+
 -- The dissector's answer: the number of its refusal, or done with the command's number, its fields and its cast.
 abbrev pub dissectionAs : Dissection → Outcome Sent
-dissectionAs (Accepted d) = done (record { message = messageOf (d .command); cast = d .cast })
+dissectionAs (Accepted d) = done (sentAs d)
 dissectionAs (Refused e) = refused (numberOf e)
 
 -- Of a row and a cast: 7 for a cast that the table doesn't list, then 8.

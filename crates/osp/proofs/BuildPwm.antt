@@ -1,12 +1,11 @@
 -- SETPWM from its fields: a law for each answer.
 -- Assumes nothing.
-use mathlib.Core.Path.{_≡_, _∙_, refl, sym, ap}
-use mathlib.Core.List.{List}
+use mathlib.Core.Path.{_≡_}
 use Prim.Native.Nat.{ℕ, _/_, _%_, _≤_, _<_}
 use borrow.Author.Tests.{lt-ltb, le-ltb}
-use Rattle.telegram.specs.Numbers.{Outcome, refused}
+use Rattle.telegram.specs.Numbers.{refused}
 use Rattle.command.specs.Fields.{modeOf}
-use Rattle.command.specs.Commands.{Message, messageOf}
+use Rattle.command.specs.Commands.{messageOf}
 use Rattle.command.specs.declared.Pwm.{Pwm}
 use Rattle.command.specs.declared.Command.the-variants.{SetPwm}
 use Rattle.osp.specs.Interface.{building-directed, pwmMessage, osp-build-pwm}

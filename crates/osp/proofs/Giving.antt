@@ -1,6 +1,6 @@
 -- What is given back over the C interface: results that fit the room, and results that do not.
 -- Assumes nothing.
-use mathlib.Core.Path.{_≡_, _∙_, refl, sym, ap, ap₂}
+use mathlib.Core.Path.{_≡_, _∙_, refl, sym, ap}
 use mathlib.Core.List.{List, [], _∷_, _++_}
 use Prim.Native.Nat.{ℕ, _+_, _-_, _*_, _/_, _%_, _≤_, _<_}
 use native.Mathlib.Omega.{arith}
@@ -9,7 +9,7 @@ use lib.ListN.{length, take, drop, length-append, length-drop}
 use lib.Seq.{take-length, length-take-le}
 use borrow.Author.Tests.{lt-ltb, le-ltb}
 use borrow.Rule.Slice.PartMut.{putMid}
-use Rattle.telegram.specs.Numbers.{Outcome, refused, done, numberOf, front, counted, builtAs}
+use Rattle.telegram.specs.Numbers.{Outcome, refused, done, front, counted, builtAs}
 use Rattle.telegram.specs.Telegram.{overwritten, building}
 use Rattle.telegram.specs.declared.Built.{Built}
 use Rattle.telegram.specs.declared.Built.the-variants.{Done, Refused}
@@ -18,7 +18,7 @@ use Rattle.telegram.proofs.Building.{listed-le, telegram-length, built}
 use Rattle.telegram.proofs.Outcomes.{never, done-one}
 use Rattle.telegram.specs.declared.Telegram.{Telegram}
 use Rattle.command.specs.Casts.{castKind, castValue, addressOf}
-use Rattle.command.specs.Fields.{Layout, layoutOf, answerLayoutOf, payloadBy}
+use Rattle.command.specs.Fields.{Layout, wordBytes, layoutOf, answerLayoutOf, payloadBy}
 use Rattle.command.specs.Commands.{Message, messageOf, Sent, payloadOf, buildingCommand}
 use Rattle.command.specs.Answers.{Reply, answerPayloadOf}
 use Rattle.command.specs.declared.Cast.{Cast}
@@ -27,7 +27,7 @@ use Rattle.command.specs.declared.Parts.{Parts}
 use Rattle.command.proofs.LaidOut.{LaidOut}
 use Rattle.command.proofs.Commanding.{commanded}
 use Rattle.command.proofs.Sound.{command-short}
-use Rattle.osp.specs.Interface.{returned, builtReturned, fitted, twoBytes, readBytes, sentBytes, replyBytes}
+use Rattle.osp.specs.Interface.{returned, builtReturned, fitted, readBytes, sentBytes, replyBytes}
 
 pub fit-small : (room : ℕ) (s : List ℕ) → room < length s → fitted room s ≡ refused 9
 fit-small room s h = simp (lt-ltb _ _ h)
@@ -93,7 +93,7 @@ module _ {l : Layout} {m : Message} {x : Parts} (p : LaidOut l m x) (k : length 
 
   -- A message behind two numbers, high byte first, and its size.
   parts-given : (v : ℕ) {h w z : ℕ} → h ≡ v / 256 → w ≡ v % 256 → z ≡ x .size % 256
-      → (h ∷ w ∷ z ∷ []) ++ take (x .size) (x .bytes) ≡ twoBytes v ++ (length (payloadBy l (m .fields)) ∷ []) ++ payloadBy l (m .fields)
+      → (h ∷ w ∷ z ∷ []) ++ take (x .size) (x .bytes) ≡ wordBytes v ++ (length (payloadBy l (m .fields)) ∷ []) ++ payloadBy l (m .fields)
   parts-given v eh ew ez =
       let e = size-kept parts-short ez ∙ p .size in
       rw (eh, ew, e, p .payload)

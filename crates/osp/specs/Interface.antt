@@ -1,7 +1,7 @@
 -- The C interface over numbers and byte slices: what each function returns and what it leaves in the lent room.
 -- Assumes nothing.
 use Prim.Native.Nat.{ℕ, _*_, _/_, _%_}
-use mathlib.Core.Bool.{Bool, cond, not, _&&_}
+use mathlib.Core.Bool.{cond, not, _&&_}
 use mathlib.Core.List.{List, [], _∷_, _++_}
 use lib.Dec.{eqb, leb, ltb}
 use lib.ListN.{length}
@@ -11,10 +11,9 @@ use Rattle.telegram.specs.declared.Telegram.{Telegram}
 use Rattle.telegram.specs.declared.Built.{Built}
 use Rattle.telegram.specs.declared.Built.the-variants.{Done, Refused}
 use Rattle.command.specs.Casts.{castKind, castValue}
-use Rattle.command.specs.Commands.{Message, numbered, messageOf, Sent, payloadOf, dissecting, composing, buildingCommand}
-use Rattle.command.specs.Answers.{Reply, answerMessageOf, answerPayloadOf, dissectingAnswer}
-use Rattle.command.specs.declared.Dissected.{Dissected}
-use Rattle.command.specs.declared.Answered.{Answered}
+use Rattle.command.specs.Fields.{wordBytes}
+use Rattle.command.specs.Commands.{Message, numbered, Sent, payloadOf, dissecting, composing, buildingCommand}
+use Rattle.command.specs.Answers.{Reply, answerPayloadOf, dissectingAnswer}
 use Rattle.command.specs.declared.Cast.{Cast}
 use Rattle.command.specs.declared.Cast.the-variants.{Everyone, One, Group}
 use Rattle.osp.specs.declared.Directed.{Directed}
@@ -34,30 +33,18 @@ builtReturned (Refused e) = numberOf e
 abbrev pub fitted : ℕ → List ℕ → Outcome (List ℕ)
 fitted room s = refuse (ltb room (length s)) 9 (done s)
 
--- A number of two bytes, high byte first.
-abbrev pub twoBytes : ℕ → List ℕ
-twoBytes n = n / 256 ∷ n % 256 ∷ []
-
 -- `osp_read` writes the address (2), command, payload size, payload.
 abbrev pub readBytes : List ℕ → Telegram → List ℕ
-readBytes s t = twoBytes (t .address .0) ++ (t .command ∷ t .size ∷ []) ++ payloadIn s (t .size)
+readBytes s t = wordBytes (t .address .0) ++ (t .command ∷ t .size ∷ []) ++ payloadIn s (t .size)
 
 -- `osp_read`: 1 to 5, then 9.
 unfoldable pub osp-read : List ℕ → ℕ → Outcome (List ℕ)
 osp-read s room = after (reading s) (λ (t : Telegram). fitted room (readBytes s t))
 
--- A dissected command of the code in document 01's numbers.
-abbrev pub sentAs : Dissected → Sent
-sentAs d = record { message = messageOf (d .command); cast = d .cast }
-
--- A dissected answer of the code in document 01's numbers.
-abbrev pub replyOf : Answered → Reply
-replyOf d = record { address = d .address .0; message = answerMessageOf (d .answer) }
-
 -- `osp_dissect` writes the command, cast (0 everyone, 1 one lamp, 2 group), address or group (2), payload size, payload.
 abbrev pub sentBytes : Sent → List ℕ
 sentBytes m =
-    (m .message .number ∷ castKind (m .cast) ∷ []) ++ twoBytes (castValue (m .cast)) ++ (length (payloadOf (m .message)) ∷ [])
+    (m .message .number ∷ castKind (m .cast) ∷ []) ++ wordBytes (castValue (m .cast)) ++ (length (payloadOf (m .message)) ∷ [])
     ++ payloadOf (m .message)
 
 -- `osp_dissect`: 1 to 8, then 9.
@@ -67,7 +54,7 @@ osp-dissect s room = after (dissecting s) (λ (m : Sent). fitted room (sentBytes
 -- `osp_dissect_answer` writes the command, address (2), answer size, answer bytes.
 abbrev pub replyBytes : Reply → List ℕ
 replyBytes a =
-    (a .message .number ∷ []) ++ twoBytes (a .address) ++ (length (answerPayloadOf (a .message)) ∷ []) ++ answerPayloadOf (a .message)
+    (a .message .number ∷ []) ++ wordBytes (a .address) ++ (length (answerPayloadOf (a .message)) ∷ []) ++ answerPayloadOf (a .message)
 
 -- `osp_dissect_answer`: 1 to 8, then 9.
 unfoldable pub osp-dissect-answer : List ℕ → ℕ → Outcome (List ℕ)

@@ -21,8 +21,9 @@ ghost use Rattle.telegram.specs.Numbers.{numberOf, leaves};
 ghost use Rattle.telegram.specs.Telegram.{building};
 ghost use Rattle.command.specs.Casts.{castKind, castValue};
 ghost use Rattle.command.specs.Fields.{modeOf};
-ghost use Rattle.command.specs.Commands.{messageOf};
-ghost use Rattle.osp.specs.Interface.{returned, builtReturned, fitted, readBytes, osp-read, sentAs, sentBytes, osp-dissect, replyOf, replyBytes, osp-dissect-answer, directing, directedAs, building-directed, osp-build-command, osp-build-pwm};
+ghost use Rattle.command.specs.Commands.{messageOf, sentAs};
+ghost use Rattle.command.specs.Answers.{replyOf};
+ghost use Rattle.osp.specs.Interface.{returned, builtReturned, fitted, readBytes, osp-read, sentBytes, osp-dissect, replyBytes, osp-dissect-answer, directing, directedAs, building-directed, osp-build-command, osp-build-pwm};
 
 // A cast from two numbers.
 pub enum Directed {

@@ -1,8 +1,8 @@
 -- The raw builder: a law for each of its answers, and what is known of a telegram that was built.
 -- Callers cite these and do not unfold `building`.
 -- Assumes nothing.
-use mathlib.Core.Path.{_≡_, refl, sym, ap, _∙_}
-use mathlib.Core.Bool.{Bool, true, false, not, _||_}
+use mathlib.Core.Path.{_≡_, refl, _∙_}
+use mathlib.Core.Bool.{Bool, true, false, _||_}
 use mathlib.Core.List.{List, [], _∷_}
 use Prim.Native.Nat.{ℕ, _+_, _<_, _≤_}
 use native.Mathlib.Omega.{arith}
@@ -10,7 +10,7 @@ use borrow.Author.Tests.{lt-ltb, le-ltb, ltb-false, leb-true, eqb-true, not-fals
 use lib.Dec.{leb, ltb, eqb}
 use lib.ListN.{length, length-append}
 use Rattle.checksum.specs.Checksum.{checksumOf}
-use Rattle.telegram.specs.Numbers.{Outcome, refused, done, refuse}
+use Rattle.telegram.specs.Numbers.{refused, done, refuse}
 use Rattle.telegram.specs.Telegram.{listed, unsealed, telegramOf, building}
 use Rattle.telegram.proofs.Outcomes.{done-one, passed}
 

@@ -1,5 +1,5 @@
 -- A list written over the front of another, and how stores make it longer. Assumes nothing.
-use mathlib.Core.Path.{_≡_, _∙_, sym, ap, ap₂, refl}
+use mathlib.Core.Path.{_≡_, _∙_, sym, ap, ap₂}
 use mathlib.Core.List.{List, [], _∷_, _++_, append-assoc, append-nil}
 use Prim.Native.Nat.{ℕ, _+_, _-_, _<_, _≤_}
 use native.Mathlib.Omega.{arith}
@@ -10,9 +10,6 @@ use borrow.Rule.Slice.PartMut.{putMid, post-is}
 use Rattle.checksum.specs.Checksum.{checksumOf}
 use Rattle.telegram.specs.Numbers.{front}
 use Rattle.telegram.specs.Telegram.{overwritten, header, unsealed, telegramOf, indexOf}
-
-pub length-front : (bs out : List ℕ) → length bs ≤ length out → length (front bs out) ≡ length out
-length-front bs out h = simp (length-append, length-drop) (omega arith)
 
 pub front-take : (bs out : List ℕ) → take (length bs) (front bs out) ≡ bs
 front-take bs out = take-append-seam bs (drop (length bs) out)

@@ -2,15 +2,14 @@
 -- Callers cite these and do not unfold `framing` and `reading`.
 -- Assumes nothing.
 use mathlib.Core.Path.{_≡_, refl, sym, ap, _∙_, subst}
-use mathlib.Core.Bool.{Bool, true, false, not, cond}
+use mathlib.Core.Bool.{Bool, true, false, cond}
 use mathlib.Core.List.{List}
-use Prim.Native.Nat.{ℕ, _+_, _/_, _<_, _≤_}
+use Prim.Native.Nat.{ℕ, _+_, _<_, _≤_}
 use native.Mathlib.Omega.{arith}
 use borrow.Author.Tests.{lt-ltb, le-ltb, eq-eqb, ne-eqb, ltb-false, eqb-true, eqb-false, not-false}
 use lib.Dec.{eqb}
-use lib.ListN.{length, getD, take}
-use Rattle.checksum.specs.Checksum.{checksumOf}
-use Rattle.telegram.specs.Numbers.{Outcome, refused, done, after, numberOf}
+use lib.ListN.{length}
+use Rattle.telegram.specs.Numbers.{refused, done, numberOf}
 use Rattle.telegram.specs.Telegram.{readAs, refusalIn, preambleIn, indexIn, sizeOf, telegramIn, framing, reading, checking, checksumRight, Bytes}
 use Rattle.telegram.specs.declared.Telegram.{Telegram}
 use Rattle.telegram.specs.declared.Refusal.{Refusal}

@@ -1,13 +1,13 @@
 -- What is built reads back, and what is read builds back: over the payload's size, and not size by size.
 -- Assumes nothing.
-use mathlib.Core.Path.{_≡_, refl, sym, ap, ap₂, _∙_, subst}
-use mathlib.Core.Bool.{Bool, true, false, not, cond, _&&_}
+use mathlib.Core.Path.{_≡_, refl, sym, ap, _∙_, subst}
+use mathlib.Core.Bool.{Bool, true, not, cond, _&&_}
 use mathlib.Core.List.{List, [], _∷_, _++_}
 use Prim.Native.Nat.{ℕ, suc, _+_, _-_, _*_, _/_, _%_, _≤_, _<_}
 use native.Mathlib.Omega.{arith}
 use lib.Dec.{T, eqb, leb, leb→le, eqb→eq, T-not}
 use borrow.Author.Tests.{ne-eqb, eq-eqb, eqb-true}
-use lib.ListN.{length, getD, take, drop, length-append, length-take}
+use lib.ListN.{length, take, length-take}
 use lib.Seq.{take-at, getD-at, take-length, take-suc}
 use Rattle.checksum.specs.Checksum.{checksumOf}
 use Rattle.checksum.proofs.Below.{T-left, T-right, T-true, below, at}

@@ -1,8 +1,7 @@
 // Single telegrams: document 01, "The bytes of a telegram" and "Numbers given back".
 ghost use mathlib.Core.Path.{_≡_};
 ghost use Prim.Native.Nat.{_+_, _*_, _/_, _%_, _≤_, _<_};
-ghost use mathlib.Core.List.{_++_};
-ghost use lib.ListN.{length, take, drop, set};
+ghost use lib.ListN.{length, take, set};
 ghost use Rattle.checksum.specs.Checksum.{checksumOf};
 ghost use Rattle.telegram.specs.Numbers.{numberOf, builtAs, counted, front, leaves};
 ghost use Rattle.telegram.specs.Telegram.{readAs, refusalIn, sizeOf, framing, reading, checksumRight, header, listed, indexOf, telegramOf, building, overwritten};

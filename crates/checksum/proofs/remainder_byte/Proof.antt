@@ -1,9 +1,8 @@
 -- `checksum::remainder_byte` meets its contract. The invariant: the bits left, done to x, give the remainder. Assumes nothing.
-use Prim.Native.Nat.{ℕ, _≤_, _<_, _-_, _+_}
+use Prim.Native.Nat.{_≤_, _-_}
 use mathlib.Core.Path.{_≡_, _∙_, sym, refl}
-use borrow.Author.Needs.{needs}
 use native.Mathlib.Omega.{arith}
-use Rattle.checksum.specs.Checksum.{shiftBit, shiftBits, remainderByte}
+use Rattle.checksum.specs.Checksum.{shiftBits, remainderByte}
 use Rattle.checksum.proofs.Bit.{shift-step, shift-end}
 use Rattle.checksum.proofs.remainder_byte.Statement.{statement}
 use Rattle.checksum.proofs.remainder_byte.Tie as tie

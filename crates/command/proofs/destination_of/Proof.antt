@@ -1,7 +1,6 @@
 -- `command::destination_of` meets its contract.
 -- Assumes nothing.
 use mathlib.Core.Path.{ap, sym}
-use native.Mathlib.Omega.{arith}
 use borrow.Author.Needs.{needs}
 use Rattle.command.specs.Casts.{destination}
 use Rattle.command.proofs.Destinations.{to-one, to-group, to-nobody}

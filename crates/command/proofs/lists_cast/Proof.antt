@@ -1,6 +1,6 @@
 -- `command::lists_cast` meets its contract.
 -- Assumes nothing.
-use mathlib.Core.Path.{_≡_, _∙_, sym, ap}
+use mathlib.Core.Path.{_∙_, sym, ap}
 use borrow.Author.Needs.{needs}
 use Rattle.telegram.specs.Numbers.{Outcome}
 use Rattle.command.specs.Commands.{entryAs, listsCast}

@@ -1,16 +1,15 @@
 -- `osp::give_answer` meets its contract.
 -- Assumes nothing.
-use mathlib.Core.Path.{_≡_, _∙_, ap, sym}
-use Prim.Native.Nat.{ℕ, _≤_}
+use mathlib.Core.Path.{ap, sym}
 use native.Mathlib.Omega.{arith}
 use borrow.Author.Needs.{needs}
 use lib.ListN.{length}
 use Rattle.telegram.proofs.Outcomes.{told-same}
 use Rattle.command.specs.Fields.{answerLayoutOf}
-use Rattle.command.specs.Answers.{answerMessageOf}
+use Rattle.command.specs.Answers.{answerMessageOf, replyOf}
 use Rattle.command.proofs.LaidOut.{LaidOut, laid-out}
 use Rattle.command.proofs.Sound.{answer-short}
-use Rattle.osp.specs.Interface.{returned, fitted, replyOf}
+use Rattle.osp.specs.Interface.{returned, fitted}
 use Rattle.osp.proofs.Giving.{parts-short, parts-taken, reply-bytes}
 use Rattle.osp.proofs.give_answer.Statement.{statement}
 use Rattle.osp.proofs.give_answer.Tie as tie

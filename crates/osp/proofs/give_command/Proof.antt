@@ -1,16 +1,15 @@
 -- `osp::give_command` meets its contract.
 -- Assumes nothing.
-use mathlib.Core.Path.{_≡_, _∙_, ap, sym}
-use Prim.Native.Nat.{ℕ, _≤_}
+use mathlib.Core.Path.{ap, sym}
 use native.Mathlib.Omega.{arith}
 use borrow.Author.Needs.{needs}
 use lib.ListN.{length}
 use Rattle.telegram.proofs.Outcomes.{told-same}
 use Rattle.command.specs.Fields.{layoutOf}
-use Rattle.command.specs.Commands.{messageOf, payloadOf}
+use Rattle.command.specs.Commands.{messageOf, sentAs}
 use Rattle.command.proofs.LaidOut.{LaidOut, laid-out}
 use Rattle.command.proofs.Sound.{command-short}
-use Rattle.osp.specs.Interface.{returned, fitted, sentAs}
+use Rattle.osp.specs.Interface.{returned, fitted}
 use Rattle.osp.proofs.Giving.{parts-short, parts-taken, sent-bytes}
 use Rattle.osp.proofs.give_command.Statement.{statement}
 use Rattle.osp.proofs.give_command.Tie as tie

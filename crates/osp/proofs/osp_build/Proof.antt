@@ -1,8 +1,8 @@
 -- `osp::osp_build` meets its contract.
 -- Assumes nothing.
-use mathlib.Core.Path.{_≡_, _∙_, refl}
+use mathlib.Core.Path.{_∙_, refl}
 use borrow.Author.Needs.{needs}
-use Rattle.telegram.proofs.Outcomes.{told-refused, told-same}
+use Rattle.telegram.proofs.Outcomes.{told-refused}
 use Rattle.telegram.proofs.Building.{build-address, build-command}
 use Rattle.osp.specs.Interface.{returned}
 use Rattle.osp.proofs.Giving.{built-returns, built-short}

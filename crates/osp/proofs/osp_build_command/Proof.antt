@@ -1,6 +1,6 @@
 -- `osp::osp_build_command` meets its contract.
 -- Assumes nothing.
-use mathlib.Core.Path.{_≡_, _∙_, refl, sym, ap}
+use mathlib.Core.Path.{_∙_, refl, sym, ap}
 use native.Mathlib.Omega.{arith}
 use borrow.Author.Needs.{needs}
 use Rattle.telegram.proofs.Outcomes.{after-refused, after-done, told-refused, told-same}

@@ -1,6 +1,6 @@
 -- `osp::osp_build_pwm` meets its contract.
 -- Assumes nothing.
-use mathlib.Core.Path.{_≡_, _∙_, refl, sym, ap}
+use mathlib.Core.Path.{_∙_, refl, sym, ap}
 use borrow.Author.Needs.{needs}
 use lib.ListN.{length}
 use Rattle.telegram.proofs.Outcomes.{told-refused, told-same}

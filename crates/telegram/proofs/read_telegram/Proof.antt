@@ -5,7 +5,7 @@ use native.Mathlib.Omega.{arith}
 use borrow.Author.Needs.{needs}
 use borrow.Author.Tests.{not-true, not-false}
 use denote.Ref.{now}
-use Rattle.telegram.specs.Numbers.{refused, done}
+use Rattle.telegram.specs.Numbers.{done}
 use Rattle.telegram.specs.Telegram.{readAs, framing}
 use Rattle.telegram.proofs.Reading.{framed, read-framed, read-checksum, read-done}
 use Rattle.telegram.proofs.read_telegram.Statement.{statement}
