@@ -1,14 +1,12 @@
--- Two tests that both hold.
+-- Two tests that both hold, of the law on computed tests.
 -- Assumes nothing.
-use mathlib.Core.Path.{_≡_, refl}
-use mathlib.Core.Bool.{Bool, true, false, _&&_}
-use Prim.Native.Nat.{ℕ}
-use native.Mathlib.Omega.{arith}
+use mathlib.Core.Path.{_≡_, sym, subst}
+use mathlib.Core.Bool.{Bool, true, _&&_}
+use lib.Dec.{T}
+use Rattle.checksum.proofs.Below.{T-left, T-right, T-true}
 
 pub and-left : (a b : Bool) → (a && b) ≡ true → a ≡ true
-and-left true b h = refl
-and-left false b h = h
+and-left a b h = T-true a (T-left a b (subst T (sym h) tt))
 
 pub and-right : (a b : Bool) → (a && b) ≡ true → b ≡ true
-and-right true b h = h
-and-right false b h = absurd (let z : _≡_ {A = ℕ} 0 1 = cc in omega arith)
+and-right a b h = T-true b (T-right a b (subst T (sym h) tt))

@@ -4,12 +4,12 @@
 use mathlib.Core.Path.{_≡_, _∙_, sym}
 use mathlib.Core.Bool.{true, false}
 use mathlib.Core.List.{List}
-use Prim.Native.Nat.{ℕ, _+_, _≤_}
+use Prim.Native.Nat.{ℕ, _≤_}
 use native.Mathlib.Omega.{arith}
 use lib.Dec.{leb, ltb}
 use lib.ListN.{length}
 use borrow.Author.Tests.{leb-true, not-false}
-use Rattle.telegram.specs.Numbers.{refused, done, refuse}
+use Rattle.telegram.specs.Numbers.{refused, done, fitted}
 use Rattle.telegram.specs.Telegram.{building, telegramOf}
 use Rattle.telegram.proofs.Outcomes.{done-one, passed}
 use Rattle.telegram.proofs.Building.{Sendable, build-sendable}
@@ -50,7 +50,7 @@ module _ (m : Message) (cast : Cast) (room : ℕ) where
   -- Of a message that fits, only the room is left to test.
   command-fit : Fit m cast
       → buildingCommand m cast room
-      ≡ refuse (ltb room (4 + length (payloadOf m))) 9 (done (telegramOf (addressOf cast) (m .number) (payloadOf m)))
+      ≡ fitted room (telegramOf (addressOf cast) (m .number) (payloadOf m))
   unfolding buildingCommand
   command-fit f = simp (f .range, f .duties, f .lists)
 
@@ -69,8 +69,8 @@ module _ (m : Message) (cast : Cast) (room : ℕ) where
       let p₁ = passed _ _ _ e in
       let p₂ = passed _ _ _ (p₁ .1) in
       let p₃ = passed _ _ _ (p₂ .1) in
-      let p₄ =
-      passed (ltb room (4 + length (payloadOf m))) 9 (done (telegramOf (addressOf cast) (m .number) (payloadOf m))) (p₃ .1) in (
+      let s = telegramOf (addressOf cast) (m .number) (payloadOf m) in
+      let p₄ = passed (ltb room (length s)) 9 (done s) (p₃ .1) in (
         record { range = not-false _ (p₁ .0); duties = not-false _ (p₂ .0); lists = not-false _ (p₃ .0) },
         done-one (p₄ .1),
       )

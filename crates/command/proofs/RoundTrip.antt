@@ -2,14 +2,14 @@
 -- answer builds back through the raw builder; what is accepted for one lamp has an address 001 to 3EF.
 -- Assumes nothing.
 use mathlib.Core.Path.{_≡_, _∙_, refl, sym, ap, subst}
-use mathlib.Core.Bool.{Bool, true, false, cond}
+use mathlib.Core.Bool.{Bool, true, false}
 use mathlib.Core.List.{List}
 use Prim.Native.Nat.{ℕ, _+_, _≤_, _<_}
 use native.Mathlib.Omega.{arith}
-use lib.Dec.{leb, ltb, eqb}
+use lib.Dec.{leb, ltb}
 use lib.ListN.{length, getD, drop, length-drop, List·getD-eq-default}
 use lib.Seq.{getD-take, getD-drop, length-take-le}
-use borrow.Author.Tests.{ltb-true, ltb-false, leb-true, eqb-true, eq-eqb}
+use borrow.Author.Tests.{ltb-true, ltb-false, leb-true, eq-eqb}
 use Rattle.telegram.specs.Numbers.{Outcome, refused, done}
 use Rattle.telegram.specs.Telegram.{Bytes, reading, building, listed, payloadIn}
 use Rattle.telegram.specs.declared.Telegram.{Telegram}
@@ -17,8 +17,8 @@ use Rattle.telegram.proofs.Reading.{accepted-count}
 use Rattle.telegram.proofs.Building.{Sendable, build-done, built}
 use Rattle.telegram.proofs.RoundTrip.{read-builds, built-reads}
 use Rattle.command.specs.Casts.{addressOf, castInRange}
-use Rattle.command.specs.Fields.{octets, word, long, pwm, layoutOf, answerLayoutOf, fieldsBy}
-use Rattle.command.specs.Commands.{Message, numbered, messageOf, Sent, rowOf, castListed, listsCast, payloadOf, payloadSizeOf, answerSizeOf, dissecting, buildingCommand}
+use Rattle.command.specs.Fields.{layoutOf, answerLayoutOf, fieldsBy}
+use Rattle.command.specs.Commands.{Message, numbered, messageOf, Sent, rowOf, castListed, listsCast, payloadOf, payloadSizeOf, dissecting, buildingCommand}
 use Rattle.command.specs.Answers.{Reply, answerPayloadOf, dissectingAnswer}
 use Rattle.command.specs.declared.Row.{Row}
 use Rattle.command.specs.declared.Cast.{Cast}
@@ -28,35 +28,11 @@ use Rattle.telegram.specs.declared.Address.{Address}
 use Rattle.command.proofs.Both.{and-left, and-right}
 use Rattle.command.proofs.Table.{sized}
 use Rattle.command.proofs.Destinations.{reached, cast-back}
-use Rattle.command.proofs.Layouts.{Wide, payload-back, duties-back}
+use Rattle.command.proofs.Layouts.{Wide, command-wide, answer-wide, payload-back, duties-back}
 use Rattle.command.proofs.Naming.{Named, named, name-done, dissected, dissect-named}
 use Rattle.command.proofs.Answering.{Replied, replied, dissected-answer}
 use Rattle.command.proofs.Commanding.{Fit, address-le, command-sent, commanded}
 use Rattle.command.proofs.Sound.{sound}
-
--- A number whose layout makes other fields than bytes has a payload of the width that the layout wants.
-wide-by : (b₁ b₂ : Bool) (n : ℕ) (p : List ℕ) → eqb n 0x0D ≡ b₁ → eqb n 0x4F ≡ b₂ → payloadSizeOf n ≡ done (length p)
-    → Wide (cond b₁ word (cond b₂ pwm octets)) p
-unfolding rowOf
-wide-by true b₂ n p e₁ e₂ h = sized payloadSizeOf 2 (eqb-true n 0x0D e₁) refl h
-wide-by false true n p e₁ e₂ h = sized payloadSizeOf 6 (eqb-true n 0x4F e₂) refl h
-wide-by false false n p e₁ e₂ h = tt
-
-wide : (n : ℕ) (p : List ℕ) → payloadSizeOf n ≡ done (length p) → Wide (layoutOf n) p
-unfolding layoutOf
-wide n p h = wide-by (eqb n 0x0D) (eqb n 0x4F) n p refl refl h
-
-answer-wide-by : (b₁ b₂ b₃ : Bool) (n : ℕ) (p : List ℕ) → eqb n 0x07 ≡ b₁ → eqb n 0x0C ≡ b₂ → eqb n 0x4E ≡ b₃
-    → answerSizeOf n ≡ done (length p) → Wide (cond b₁ long (cond b₂ word (cond b₃ pwm octets))) p
-unfolding rowOf
-answer-wide-by true b₂ b₃ n p e₁ e₂ e₃ h = sized answerSizeOf 4 (eqb-true n 0x07 e₁) refl h
-answer-wide-by false true b₃ n p e₁ e₂ e₃ h = sized answerSizeOf 2 (eqb-true n 0x0C e₂) refl h
-answer-wide-by false false true n p e₁ e₂ e₃ h = sized answerSizeOf 6 (eqb-true n 0x4E e₃) refl h
-answer-wide-by false false false n p e₁ e₂ e₃ h = tt
-
-answer-wide : (n : ℕ) (p : List ℕ) → answerSizeOf n ≡ done (length p) → Wide (answerLayoutOf n) p
-unfolding answerLayoutOf
-answer-wide n p h = answer-wide-by (eqb n 0x07) (eqb n 0x0C) (eqb n 0x4E) n p refl refl refl h
 
 -- The payload of bytes is bytes, and as long as the telegram says.
 part-bytes : (b : Bool) (s : List ℕ) (k i : ℕ) → ltb i k ≡ b → Bytes s → length (payloadIn s k) ≡ k → getD (payloadIn s k) i 0 < 256
@@ -82,11 +58,11 @@ dissected-builds s m y e room h =
     let p : List ℕ = payloadIn s (t .size) in
     let x : Message = numbered n (fieldsBy (layoutOf n) p) in
     let lp : length p ≡ t .size = payload-length s t r in
-    let w : Wide (layoutOf n) p = wide n p (simp (g .known) (ap done (sym (g .size) ∙ sym lp))) in
-    let ep : p ≡ payloadOf x = sym (payload-back (layoutOf n) p (payload-bytes s (t .size) y lp) w) in
-    let q = reached (t .address .0) (m .cast) (g .to) in
     let b : building (t .address .0) n p room ≡ done s = read-builds s t y r room h in
     let v = built (t .address .0) n p room b .0 in
+    let w : Wide (layoutOf n) p = command-wide n (v .command) p (simp (g .known) (ap done (sym (g .size) ∙ sym lp))) in
+    let ep : p ≡ payloadOf x = sym (payload-back (layoutOf n) p (payload-bytes s (t .size) y lp) w) in
+    let q = reached (t .address .0) (m .cast) (g .to) in
     let f : Fit x (m .cast) =
     record { range = q .range; duties = duties-back (layoutOf n) p; lists = simp (g .known) (g .listed) } in
     let vx : Sendable (addressOf (m .cast)) n (payloadOf x) =
@@ -131,10 +107,12 @@ answered-builds s a y e room h =
     let n = t .command in
     let p : List ℕ = payloadIn s (t .size) in
     let lp : length p ≡ t .size = payload-length s t r in
-    let w : Wide (answerLayoutOf n) p = answer-wide n p (simp (g .known) (ap done (sym (g .size) ∙ sym lp))) in
+    let b : building (t .address .0) n p room ≡ done s = read-builds s t y r room h in
+    let v = built (t .address .0) n p room b .0 in
+    let w : Wide (answerLayoutOf n) p = answer-wide n (v .command) p (simp (g .known) (ap done (sym (g .size) ∙ sym lp))) in
     subst (λ (x : Reply). building (x .address) (x .message .number) (answerPayloadOf (x .message)) room ≡ done s) (g .reply)
     (ap (λ (l : List ℕ). building (t .address .0) n l room) (payload-back (answerLayoutOf n) p (payload-bytes s (t .size) y lp) w)
-    ∙ read-builds s t y r room h)
+    ∙ b)
 
 -- What is accepted for one lamp has an address 001 to 3EF.
 pub one-lamp : (s : List ℕ) (m : Sent) (a : Address) → dissecting s ≡ done m → m .cast ≡ One a → (1 ≤ a .0) × (a .0 ≤ 0x3EF)

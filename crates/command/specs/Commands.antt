@@ -3,9 +3,9 @@
 use Prim.Native.Nat.{ℕ, _+_, _-_}
 use mathlib.Core.Bool.{Bool, true, false, cond, not}
 use mathlib.Core.List.{List, [], _∷_, _++_}
-use lib.Dec.{eqb, leb, ltb}
+use lib.Dec.{eqb, leb}
 use lib.ListN.{length, replicate}
-use Rattle.telegram.specs.Numbers.{Outcome, refused, done, refuse, after, numberOf}
+use Rattle.telegram.specs.Numbers.{Outcome, refused, done, refuse, after, fitted, numberOf}
 use Rattle.telegram.specs.Telegram.{reading, payloadIn, telegramOf}
 use Rattle.telegram.specs.declared.Telegram.{Telegram}
 use Rattle.command.specs.Casts.{destination, addressOf, castInRange}
@@ -162,8 +162,7 @@ buildingCommand m cast room =
     refuse (not (castInRange cast)) 10
     (refuse (not (dutiesInRange (layoutOf (m .number)) (m .fields))) 10
     (refuse (not (listsCast (rowOf (m .number)) cast)) 7
-    (refuse (ltb room (4 + length (payloadOf m))) 9
-    (done (telegramOf (addressOf cast) (m .number) (payloadOf m))))))
+    (fitted room (telegramOf (addressOf cast) (m .number) (payloadOf m)))))
 
 -- A message as the code lays it out: number, payload with zeros up to 8 bytes, payload size, and whether its duties are in range.
 abbrev pub partsBy : Layout → Message → Parts

@@ -32,10 +32,11 @@ pub record Case : Type 0 where
   pub bytes : List ℕ
   pub gives : List ℕ
 
+-- A row of the table.
 abbrev pub case : (List ℕ → List ℕ) → List ℕ → List ℕ → Case
 case by bytes gives = record { by = by; bytes = bytes; gives = gives }
 
--- The table.
+-- The marked cases in the order of the page.
 unfoldable pub marked : List Case
 marked =
     case dissect (0xA0 ∷ 0x00 ∷ 0x00 ∷ 0x22 ∷ []) (0 ∷ 0x00 ∷ 0 ∷ 0 ∷ [])

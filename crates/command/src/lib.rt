@@ -36,7 +36,8 @@ pub enum Entry {
     Unknown,
 }
 
-// To whom a command goes. An init's first address is named as one lamp.
+// Document 01's cast, to whom a command goes: everyone (broadcast), one lamp (unicast) or a group. An init's first address
+// is named as one lamp.
 pub enum Cast {
     Everyone,
     One(Address),
@@ -322,13 +323,14 @@ pub fn dissect(s: &[u8]) -> Dissection
     name_command(s, t)
 }
 
-// Whether all hold; whether one holds.
+// Whether both hold.
 fn and(a: bool, b: bool) -> bool
     ensures { λ r. ⌜ r ≡ (a && b) ⌝ }
 {
     if a { b } else { false }
 }
 
+// Whether one of two holds.
 fn or(a: bool, b: bool) -> bool
     ensures { λ r. ⌜ r ≡ (a || b) ⌝ }
 {

@@ -8,30 +8,30 @@ use Rattle.command.specs.Fields.{modeOf}
 use Rattle.command.specs.Commands.{messageOf}
 use Rattle.command.specs.declared.Pwm.{Pwm}
 use Rattle.command.specs.declared.Command.the-variants.{SetPwm}
-use Rattle.osp.specs.Interface.{building-directed, pwmMessage, osp-build-pwm}
+use Rattle.osp.specs.Interface.{buildingDirected, pwmMessage, ospBuildPwm}
 
 module _ (k v m r g b room : ℕ) where
-  pub modes-out : 7 < m → osp-build-pwm k v m r g b room ≡ refused 10
-  unfolding osp-build-pwm
+  pub modes-out : 7 < m → ospBuildPwm k v m r g b room ≡ refused 10
+  unfolding ospBuildPwm
   modes-out h = simp (lt-ltb _ _ h)
 
   module _ (h₁ : m ≤ 7) where
-    pub red-out : 32767 < r → osp-build-pwm k v m r g b room ≡ refused 10
-    unfolding osp-build-pwm
+    pub red-out : 32767 < r → ospBuildPwm k v m r g b room ≡ refused 10
+    unfolding ospBuildPwm
     red-out h = simp (le-ltb _ _ h₁, lt-ltb _ _ h)
 
     module _ (h₂ : r ≤ 32767) where
-      pub green-out : 32767 < g → osp-build-pwm k v m r g b room ≡ refused 10
-      unfolding osp-build-pwm
+      pub green-out : 32767 < g → ospBuildPwm k v m r g b room ≡ refused 10
+      unfolding ospBuildPwm
       green-out h = simp (le-ltb _ _ h₁, le-ltb _ _ h₂, lt-ltb _ _ h)
 
       module _ (h₃ : g ≤ 32767) where
-        pub blue-out : 32767 < b → osp-build-pwm k v m r g b room ≡ refused 10
-        unfolding osp-build-pwm
+        pub blue-out : 32767 < b → ospBuildPwm k v m r g b room ≡ refused 10
+        unfolding ospBuildPwm
         blue-out h = simp (le-ltb _ _ h₁, le-ltb _ _ h₂, le-ltb _ _ h₃, lt-ltb _ _ h)
 
-        pub pwm-directed : b ≤ 32767 → osp-build-pwm k v m r g b room ≡ building-directed (pwmMessage m r g b) k v room
-        unfolding osp-build-pwm
+        pub pwm-directed : b ≤ 32767 → ospBuildPwm k v m r g b room ≡ buildingDirected (pwmMessage m r g b) k v room
+        unfolding ospBuildPwm
         pwm-directed h = simp (le-ltb _ _ h₁, le-ltb _ _ h₂, le-ltb _ _ h₃, le-ltb _ _ h)
 
 -- The command that the code makes is the message of the numbers.

@@ -2,38 +2,30 @@
 -- Assumes nothing.
 use mathlib.Core.Path.{_≡_, _∙_, refl, sym, ap}
 use mathlib.Core.List.{List, [], _∷_, _++_}
-use Prim.Native.Nat.{ℕ, _+_, _-_, _*_, _/_, _%_, _≤_, _<_}
+use Prim.Native.Nat.{ℕ, _+_, _-_, _/_, _%_, _≤_, _<_}
 use native.Mathlib.Omega.{arith}
 use native.Mathlib.Nat.{add-sub-cancel-left}
 use lib.ListN.{length, take, drop, length-append, length-drop}
 use lib.Seq.{take-length, length-take-le}
-use borrow.Author.Tests.{lt-ltb, le-ltb}
 use borrow.Rule.Slice.PartMut.{putMid}
 use Rattle.telegram.specs.Numbers.{Outcome, refused, done, front, counted, builtAs}
-use Rattle.telegram.specs.Telegram.{overwritten, building}
+use Rattle.telegram.specs.Telegram.{building}
 use Rattle.telegram.specs.declared.Built.{Built}
-use Rattle.telegram.specs.declared.Built.the-variants.{Done, Refused}
-use Rattle.telegram.proofs.Front.{front-over, put-over}
+use Rattle.telegram.proofs.Front.{overwritten, front-over, put-over}
 use Rattle.telegram.proofs.Building.{listed-le, telegram-length, built}
 use Rattle.telegram.proofs.Outcomes.{never, done-one}
 use Rattle.telegram.specs.declared.Telegram.{Telegram}
 use Rattle.command.specs.Casts.{castKind, castValue, addressOf}
 use Rattle.command.specs.Fields.{Layout, wordBytes, layoutOf, answerLayoutOf, payloadBy}
 use Rattle.command.specs.Commands.{Message, messageOf, Sent, payloadOf, buildingCommand}
-use Rattle.command.specs.Answers.{Reply, answerPayloadOf}
+use Rattle.command.specs.Answers.{Reply}
 use Rattle.command.specs.declared.Cast.{Cast}
 use Rattle.command.specs.declared.Command.{Command}
 use Rattle.command.specs.declared.Parts.{Parts}
 use Rattle.command.proofs.LaidOut.{LaidOut}
 use Rattle.command.proofs.Commanding.{commanded}
 use Rattle.command.proofs.Sound.{command-short}
-use Rattle.osp.specs.Interface.{returned, builtReturned, fitted, readBytes, sentBytes, replyBytes}
-
-pub fit-small : (room : ℕ) (s : List ℕ) → room < length s → fitted room s ≡ refused 9
-fit-small room s h = simp (lt-ltb _ _ h)
-
-pub fit-done : (room : ℕ) (s : List ℕ) → length s ≤ room → fitted room s ≡ done s
-fit-done room s h = simp (le-ltb _ _ h)
+use Rattle.osp.specs.Interface.{readBytes, sentBytes, replyBytes}
 
 -- Two copies, one behind the other, write both lists to the front.
 pub two-copies : (head p out : List ℕ) {o ys : List ℕ} → length head + length p ≤ length out
@@ -46,20 +38,11 @@ two-copies head p out {o} {ys} h e f =
     put-over o p (length head) (omega arith) f
     ∙ ap (λ (l : List ℕ). overwritten l (length head) p) eo ∙ front-over head out p
 
-refused-one : {n k : ℕ} → _≡_ {A = Outcome ℕ} (refused n) (refused k) → n ≡ k
-refused-one e = cc
-
--- A builder's answer is returned as its outcome is, where what it builds is short.
-pub built-returns : (b : Built) (o : Outcome (List ℕ)) → builtAs b ≡ counted o
-    → ((s : List ℕ) → o ≡ done s → length s < 65536) → builtReturned b ≡ returned o
-built-returns (Done n) (refused k) e h = absurd (never (sym e))
-built-returns (Done n) (done s) e h =
-    let l : n ≡ length s = done-one e in
-    let u : length s < 65536 = h s refl in
-    let m : n % 65536 ≡ length s = omega arith in
-    ap (λ (x : ℕ). x * 256) m
-built-returns (Refused r) (refused k) e h = refused-one e
-built-returns (Refused r) (done s) e h = absurd (never e)
+-- The count of a builder's answer is short, where what it builds is.
+pub count-short : (b : Built) (o : Outcome (List ℕ)) → builtAs b ≡ counted o → ((s : List ℕ) → o ≡ done s → length s < 65536)
+    → (n : ℕ) → builtAs b ≡ done n → n < 65536
+count-short b (refused k) e h n d = absurd (never (sym e ∙ d))
+count-short b (done s) e h n d = let l : length s ≡ n = done-one (sym e ∙ d) in omega (arith, h s refl)
 
 -- What the two builders build is short.
 pub built-short : (a c : ℕ) (p : List ℕ) (room : ℕ) (s : List ℕ) → building a c p room ≡ done s → length s < 65536
@@ -73,39 +56,34 @@ command-built-short c cast room s e =
     let q = commanded m cast room e in
     omega (arith, sym (ap length (q .1)) ∙ telegram-length (addressOf cast) (m .number) (payloadOf m), command-short c)
 
-size-kept : {z n : ℕ} → n ≤ 8 → z ≡ n % 256 → z ≡ n
-size-kept h e = omega arith
-
 -- What is given of a telegram that was read.
-pub read-bytes : (s : List ℕ) (t : Telegram) {h l z : ℕ} → t .size ≤ 8 → h ≡ t .address .0 / 256 → l ≡ t .address .0 % 256
-    → z ≡ t .size % 256 → (h ∷ l ∷ t .command ∷ z ∷ []) ++ take (3 + t .size - 3) (drop 3 s) ≡ readBytes s t
-read-bytes s t k eh el ez =
-    let e = size-kept k ez in
-    rw (eh, el, e, add-sub-cancel-left 3 (t .size))
+pub read-bytes : (s : List ℕ) (t : Telegram) {h l z : ℕ} → h ≡ t .address .0 / 256 → l ≡ t .address .0 % 256
+    → z ≡ t .size → (h ∷ l ∷ t .command ∷ z ∷ []) ++ take (3 + t .size - 3) (drop 3 s) ≡ readBytes s t
+read-bytes s t eh el ez = rw (eh, el, ez, add-sub-cancel-left 3 (t .size))
 
-module _ {l : Layout} {m : Message} {x : Parts} (p : LaidOut l m x) (k : length (payloadBy l (m .fields)) ≤ 8) where
+module _ {l : Layout} {m : Message} {x : Parts} (p : LaidOut l m x) where
   -- The payload that is given has the size that the parts say, which is at most 8.
-  pub parts-short : x .size ≤ 8
-  parts-short = omega (arith, p .size)
+  pub parts-short : length (payloadBy l (m .fields)) ≤ 8 → x .size ≤ 8
+  parts-short k = omega (arith, p .size)
 
   pub parts-taken : length (take (x .size) (x .bytes)) ≡ x .size
   parts-taken = length-take-le (x .size) (x .bytes) (p .within)
 
   -- A message behind two numbers, high byte first, and its size.
-  parts-given : (v : ℕ) {h w z : ℕ} → h ≡ v / 256 → w ≡ v % 256 → z ≡ x .size % 256
+  parts-given : (v : ℕ) {h w z : ℕ} → h ≡ v / 256 → w ≡ v % 256 → z ≡ x .size
       → (h ∷ w ∷ z ∷ []) ++ take (x .size) (x .bytes) ≡ wordBytes v ++ (length (payloadBy l (m .fields)) ∷ []) ++ payloadBy l (m .fields)
   parts-given v eh ew ez =
-      let e = size-kept parts-short ez ∙ p .size in
+      let e = ez ∙ p .size in
       rw (eh, ew, e, p .payload)
 
 -- What is given of a dissected command, and of a dissected answer.
-pub sent-bytes : (m : Sent) {x : Parts} (p : LaidOut (layoutOf (m .message .number)) (m .message) x) → length (payloadOf (m .message)) ≤ 8
-    → (v : ℕ) {k h w z : ℕ} → k ≡ castKind (m .cast) → v ≡ castValue (m .cast) → h ≡ v / 256 → w ≡ v % 256 → z ≡ x .size % 256
+pub sent-bytes : (m : Sent) {x : Parts} (p : LaidOut (layoutOf (m .message .number)) (m .message) x)
+    → (v : ℕ) {k h w z : ℕ} → k ≡ castKind (m .cast) → v ≡ castValue (m .cast) → h ≡ v / 256 → w ≡ v % 256 → z ≡ x .size
     → (x .number ∷ k ∷ h ∷ w ∷ z ∷ []) ++ take (x .size) (x .bytes) ≡ sentBytes m
-sent-bytes m p k v ek ev eh ew ez =
-    rw (p .number, ek, ← ev) (ap (λ (l : List ℕ). m .message .number ∷ castKind (m .cast) ∷ l) (parts-given p k v eh ew ez))
+sent-bytes m p v ek ev eh ew ez =
+    rw (p .number, ek, ← ev) (ap (λ (l : List ℕ). m .message .number ∷ castKind (m .cast) ∷ l) (parts-given p v eh ew ez))
 
-pub reply-bytes : (a : Reply) {x : Parts} (p : LaidOut (answerLayoutOf (a .message .number)) (a .message) x) → length (answerPayloadOf (a .message)) ≤ 8
-    → {h w z : ℕ} → h ≡ a .address / 256 → w ≡ a .address % 256 → z ≡ x .size % 256
+pub reply-bytes : (a : Reply) {x : Parts} (p : LaidOut (answerLayoutOf (a .message .number)) (a .message) x)
+    → {h w z : ℕ} → h ≡ a .address / 256 → w ≡ a .address % 256 → z ≡ x .size
     → (x .number ∷ h ∷ w ∷ z ∷ []) ++ take (x .size) (x .bytes) ≡ replyBytes a
-reply-bytes a p k eh ew ez = rw (p .number) (ap (λ (l : List ℕ). a .message .number ∷ l) (parts-given p k (a .address) eh ew ez))
+reply-bytes a p eh ew ez = rw (p .number) (ap (λ (l : List ℕ). a .message .number ∷ l) (parts-given p (a .address) eh ew ez))

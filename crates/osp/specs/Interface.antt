@@ -5,11 +5,9 @@ use mathlib.Core.Bool.{cond, not, _&&_}
 use mathlib.Core.List.{List, [], _∷_, _++_}
 use lib.Dec.{eqb, leb, ltb}
 use lib.ListN.{length}
-use Rattle.telegram.specs.Numbers.{Outcome, refused, done, refuse, after, numberOf}
+use Rattle.telegram.specs.Numbers.{Outcome, refused, done, refuse, after, fitted, counted}
 use Rattle.telegram.specs.Telegram.{reading, payloadIn}
 use Rattle.telegram.specs.declared.Telegram.{Telegram}
-use Rattle.telegram.specs.declared.Built.{Built}
-use Rattle.telegram.specs.declared.Built.the-variants.{Done, Refused}
 use Rattle.command.specs.Casts.{castKind, castValue}
 use Rattle.command.specs.Fields.{wordBytes}
 use Rattle.command.specs.Commands.{Message, numbered, Sent, payloadOf, dissecting, composing, buildingCommand}
@@ -19,27 +17,22 @@ use Rattle.command.specs.declared.Cast.the-variants.{Everyone, One, Group}
 use Rattle.osp.specs.declared.Directed.{Directed}
 use Rattle.osp.specs.declared.Directed.the-variants.{To, OutOfRange}
 
--- What a function returns: number + 256 × count, the count being the bytes written, 0 on refusal.
+-- Number and count in one: number + 256 × count. The number is 0 when done, the count 0 on refusal.
+abbrev pub packed : Outcome ℕ → ℕ
+packed (refused n) = n
+packed (done count) = count * 256
+
+-- What a function returns: its number and the count of the bytes that it wrote.
 abbrev pub returned : Outcome (List ℕ) → ℕ
-returned (refused n) = n
-returned (done s) = length s * 256
-
--- A builder's answer as it is returned, of a count below 65,536.
-abbrev pub builtReturned : Built → ℕ
-builtReturned (Done n) = n % 65536 * 256
-builtReturned (Refused e) = numberOf e
-
--- A result for which the room is too small: 9.
-abbrev pub fitted : ℕ → List ℕ → Outcome (List ℕ)
-fitted room s = refuse (ltb room (length s)) 9 (done s)
+returned o = packed (counted o)
 
 -- `osp_read` writes the address (2), command, payload size, payload.
 abbrev pub readBytes : List ℕ → Telegram → List ℕ
 readBytes s t = wordBytes (t .address .0) ++ (t .command ∷ t .size ∷ []) ++ payloadIn s (t .size)
 
 -- `osp_read`: 1 to 5, then 9.
-unfoldable pub osp-read : List ℕ → ℕ → Outcome (List ℕ)
-osp-read s room = after (reading s) (λ (t : Telegram). fitted room (readBytes s t))
+unfoldable pub ospRead : List ℕ → ℕ → Outcome (List ℕ)
+ospRead s room = after (reading s) (λ (t : Telegram). fitted room (readBytes s t))
 
 -- `osp_dissect` writes the command, cast (0 everyone, 1 one lamp, 2 group), address or group (2), payload size, payload.
 abbrev pub sentBytes : Sent → List ℕ
@@ -48,8 +41,8 @@ sentBytes m =
     ++ payloadOf (m .message)
 
 -- `osp_dissect`: 1 to 8, then 9.
-unfoldable pub osp-dissect : List ℕ → ℕ → Outcome (List ℕ)
-osp-dissect s room = after (dissecting s) (λ (m : Sent). fitted room (sentBytes m))
+unfoldable pub ospDissect : List ℕ → ℕ → Outcome (List ℕ)
+ospDissect s room = after (dissecting s) (λ (m : Sent). fitted room (sentBytes m))
 
 -- `osp_dissect_answer` writes the command, address (2), answer size, answer bytes.
 abbrev pub replyBytes : Reply → List ℕ
@@ -57,8 +50,8 @@ replyBytes a =
     (a .message .number ∷ []) ++ wordBytes (a .address) ++ (length (answerPayloadOf (a .message)) ∷ []) ++ answerPayloadOf (a .message)
 
 -- `osp_dissect_answer`: 1 to 8, then 9.
-unfoldable pub osp-dissect-answer : List ℕ → ℕ → Outcome (List ℕ)
-osp-dissect-answer s room = after (dissectingAnswer s) (λ (a : Reply). fitted room (replyBytes a))
+unfoldable pub ospDissectAnswer : List ℕ → ℕ → Outcome (List ℕ)
+ospDissectAnswer s room = after (dissectingAnswer s) (λ (a : Reply). fitted room (replyBytes a))
 
 -- A cast from its two numbers: 10 for a kind above 2 and for a value outside the kind's range. Everyone has the value 0.
 unfoldable pub directing : ℕ → ℕ → Outcome Cast
@@ -74,22 +67,22 @@ directedAs (To cast) = done cast
 directedAs OutOfRange = refused 10
 
 -- The command builder for a cast in two numbers: 10, 7, 9.
-unfoldable pub building-directed : Message → ℕ → ℕ → ℕ → Outcome (List ℕ)
-building-directed m kind value room = after (directing kind value) (λ (cast : Cast). buildingCommand m cast room)
+unfoldable pub buildingDirected : Message → ℕ → ℕ → ℕ → Outcome (List ℕ)
+buildingDirected m kind value room = after (directing kind value) (λ (cast : Cast). buildingCommand m cast room)
 
 -- `osp_build_command`: 6 and 8 for what names no command, then 10, 7, 9.
-unfoldable pub osp-build-command : ℕ → ℕ → ℕ → List ℕ → ℕ → Outcome (List ℕ)
-osp-build-command command kind value p room = after (composing command p) (λ (m : Message). building-directed m kind value room)
+unfoldable pub ospBuildCommand : ℕ → ℕ → ℕ → List ℕ → ℕ → Outcome (List ℕ)
+ospBuildCommand command kind value p room = after (composing command p) (λ (m : Message). buildingDirected m kind value room)
 
 -- SETPWM in numbers; modes is a sum of 4 for red, 2 for green and 1 for blue in daytime mode.
 abbrev pub pwmMessage : ℕ → ℕ → ℕ → ℕ → Message
 pwmMessage modes r g b = numbered 0x4F (modes / 4 % 2 ∷ r ∷ modes / 2 % 2 ∷ g ∷ modes % 2 ∷ b ∷ [])
 
 -- `osp_build_pwm`: 10 for modes above 7, a duty above 32,767 and a cast out of range, then 9.
-unfoldable pub osp-build-pwm : ℕ → ℕ → ℕ → ℕ → ℕ → ℕ → ℕ → Outcome (List ℕ)
-osp-build-pwm kind value modes r g b room =
+unfoldable pub ospBuildPwm : ℕ → ℕ → ℕ → ℕ → ℕ → ℕ → ℕ → Outcome (List ℕ)
+ospBuildPwm kind value modes r g b room =
     refuse (ltb 7 modes) 10
     (refuse (ltb 32767 r) 10
     (refuse (ltb 32767 g) 10
     (refuse (ltb 32767 b) 10
-    (building-directed (pwmMessage modes r g b) kind value room))))
+    (buildingDirected (pwmMessage modes r g b) kind value room))))

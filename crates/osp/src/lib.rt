@@ -13,17 +13,17 @@ use telegram::Read;
 use telegram::Refusal;
 use telegram::Telegram;
 ghost use mathlib.Core.Path.{_≡_};
-ghost use Prim.Native.Nat.{_+_, _*_, _/_, _%_, _≤_, _<_};
+ghost use Prim.Native.Nat.{ℕ, _+_, _*_, _/_, _%_, _≤_, _<_};
 ghost use mathlib.Core.List.{_++_};
 ghost use lib.ListN.{length};
 ghost use Rattle.checksum.specs.Checksum.{checksumOf};
-ghost use Rattle.telegram.specs.Numbers.{numberOf, leaves};
+ghost use Rattle.telegram.specs.Numbers.{done, numberOf, builtAs, fitted, leaves};
 ghost use Rattle.telegram.specs.Telegram.{building};
 ghost use Rattle.command.specs.Casts.{castKind, castValue};
 ghost use Rattle.command.specs.Fields.{modeOf};
 ghost use Rattle.command.specs.Commands.{messageOf, sentAs};
 ghost use Rattle.command.specs.Answers.{replyOf};
-ghost use Rattle.osp.specs.Interface.{returned, builtReturned, fitted, readBytes, osp-read, sentBytes, osp-dissect, replyBytes, osp-dissect-answer, directing, directedAs, building-directed, osp-build-command, osp-build-pwm};
+ghost use Rattle.osp.specs.Interface.{packed, returned, readBytes, ospRead, sentBytes, ospDissect, replyBytes, ospDissectAnswer, directing, directedAs, buildingDirected, ospBuildCommand, ospBuildPwm};
 
 // A cast from two numbers.
 pub enum Directed {
@@ -40,10 +40,11 @@ fn refusal_returned(e: Refusal) -> u32
 
 // A builder's answer as it is returned.
 fn built_returned(b: Built) -> u32
-    ensures { λ r. ⌜ r ≡ builtReturned b ⌝ }
+    requires { ⌜ ((n : ℕ) → builtAs b ≡ done n → n < 65536) ⌝ }
+    ensures { λ r. ⌜ r ≡ packed (builtAs b) ⌝ }
 {
     match b {
-        Built::Done(n) => (n % 65536) as u32 * 256,
+        Built::Done(n) => n as u32 * 256,
         Built::Refused(e) => refusal_returned(e),
     }
 }
@@ -61,16 +62,17 @@ fn give(head: &[u8], payload: &[u8], out: &mut [u8]) -> u32
     }
     bytes::copy(head, out);
     bytes::copy(payload, &mut out[h..]);
-    (n % 65536) as u32 * 256
+    n as u32 * 256
 }
 
-// The bytes of a number, high byte first.
+// The high byte of a number.
 fn high(n: u16) -> u8
     ensures { λ r. ⌜ r ≡ n / 256 ⌝ }
 {
     (n / 256) as u8
 }
 
+// The low byte of a number.
 fn low(n: u16) -> u8
     ensures { λ r. ⌜ r ≡ n % 256 ⌝ }
 {
@@ -79,9 +81,10 @@ fn low(n: u16) -> u8
 
 // A payload size, which is at most 8, as a byte.
 fn size_byte(n: usize) -> u8
-    ensures { λ r. ⌜ r ≡ n % 256 ⌝ }
+    requires { ⌜ n ≤ 8 ⌝ }
+    ensures { λ r. ⌜ r ≡ n ⌝ }
 {
-    (n % 256) as u8
+    n as u8
 }
 
 // The checksum of the bytes of `s`.
@@ -166,8 +169,8 @@ fn value_of(cast: Cast) -> u16
 // The telegram reader: 1 to 5, then 9.
 #[no_mangle]
 pub extern "C" fn osp_read(s: &[u8], out: &mut [u8]) -> u32
-    ensures { λ r. ⌜ r ≡ returned (osp-read (now (s .entry)) (length (now (out .entry)))) ⌝ }
-    ensures { λ r. ⌜ now (out .exit) ≡ leaves (osp-read (now (s .entry)) (length (now (out .entry)))) (now (out .entry)) ⌝ }
+    ensures { λ r. ⌜ r ≡ returned (ospRead (now (s .entry)) (length (now (out .entry)))) ⌝ }
+    ensures { λ r. ⌜ now (out .exit) ≡ leaves (ospRead (now (s .entry)) (length (now (out .entry)))) (now (out .entry)) ⌝ }
 {
     let r = telegram::read_telegram(s);
     let Read::Accepted(t) = r else {
@@ -179,8 +182,8 @@ pub extern "C" fn osp_read(s: &[u8], out: &mut [u8]) -> u32
 // The command dissector: 1 to 8, then 9.
 #[no_mangle]
 pub extern "C" fn osp_dissect(s: &[u8], out: &mut [u8]) -> u32
-    ensures { λ r. ⌜ r ≡ returned (osp-dissect (now (s .entry)) (length (now (out .entry)))) ⌝ }
-    ensures { λ r. ⌜ now (out .exit) ≡ leaves (osp-dissect (now (s .entry)) (length (now (out .entry)))) (now (out .entry)) ⌝ }
+    ensures { λ r. ⌜ r ≡ returned (ospDissect (now (s .entry)) (length (now (out .entry)))) ⌝ }
+    ensures { λ r. ⌜ now (out .exit) ≡ leaves (ospDissect (now (s .entry)) (length (now (out .entry)))) (now (out .entry)) ⌝ }
 {
     let r = command::dissect(s);
     match r {
@@ -192,8 +195,8 @@ pub extern "C" fn osp_dissect(s: &[u8], out: &mut [u8]) -> u32
 // The answer dissector: 1 to 8, then 9.
 #[no_mangle]
 pub extern "C" fn osp_dissect_answer(s: &[u8], out: &mut [u8]) -> u32
-    ensures { λ r. ⌜ r ≡ returned (osp-dissect-answer (now (s .entry)) (length (now (out .entry)))) ⌝ }
-    ensures { λ r. ⌜ now (out .exit) ≡ leaves (osp-dissect-answer (now (s .entry)) (length (now (out .entry)))) (now (out .entry)) ⌝ }
+    ensures { λ r. ⌜ r ≡ returned (ospDissectAnswer (now (s .entry)) (length (now (out .entry)))) ⌝ }
+    ensures { λ r. ⌜ now (out .exit) ≡ leaves (ospDissectAnswer (now (s .entry)) (length (now (out .entry)))) (now (out .entry)) ⌝ }
 {
     let r = command::dissect_answer(s);
     match r {
@@ -248,8 +251,8 @@ pub extern "C" fn osp_build_command(
     payload: &[u8],
     out: &mut [u8],
 ) -> u32
-    ensures { λ r. ⌜ r ≡ returned (osp-build-command command cast value (now (payload .entry)) (length (now (out .entry)))) ⌝ }
-    ensures { λ r. ⌜ now (out .exit) ≡ leaves (osp-build-command command cast value (now (payload .entry)) (length (now (out .entry)))) (now (out .entry)) ⌝ }
+    ensures { λ r. ⌜ r ≡ returned (ospBuildCommand command cast value (now (payload .entry)) (length (now (out .entry)))) ⌝ }
+    ensures { λ r. ⌜ now (out .exit) ≡ leaves (ospBuildCommand command cast value (now (payload .entry)) (length (now (out .entry)))) (now (out .entry)) ⌝ }
 {
     if 127 < command {
         return 6;
@@ -263,8 +266,8 @@ pub extern "C" fn osp_build_command(
 
 // Builds a command for a cast in two numbers: 10, 7, 9.
 fn build_directed(c: Command, kind: u32, value: u32, out: &mut [u8]) -> u32
-    ensures { λ r. ⌜ r ≡ returned (building-directed (messageOf c) kind value (length (now (out .entry)))) ⌝ }
-    ensures { λ r. ⌜ now (out .exit) ≡ leaves (building-directed (messageOf c) kind value (length (now (out .entry)))) (now (out .entry)) ⌝ }
+    ensures { λ r. ⌜ r ≡ returned (buildingDirected (messageOf c) kind value (length (now (out .entry)))) ⌝ }
+    ensures { λ r. ⌜ now (out .exit) ≡ leaves (buildingDirected (messageOf c) kind value (length (now (out .entry)))) (now (out .entry)) ⌝ }
 {
     let to = cast_from(kind, value);
     let Directed::To(cast) = to else {
@@ -296,8 +299,8 @@ pub extern "C" fn osp_build_pwm(
     blue: u32,
     out: &mut [u8],
 ) -> u32
-    ensures { λ r. ⌜ r ≡ returned (osp-build-pwm cast value modes red green blue (length (now (out .entry)))) ⌝ }
-    ensures { λ r. ⌜ now (out .exit) ≡ leaves (osp-build-pwm cast value modes red green blue (length (now (out .entry)))) (now (out .entry)) ⌝ }
+    ensures { λ r. ⌜ r ≡ returned (ospBuildPwm cast value modes red green blue (length (now (out .entry)))) ⌝ }
+    ensures { λ r. ⌜ now (out .exit) ≡ leaves (ospBuildPwm cast value modes red green blue (length (now (out .entry)))) (now (out .entry)) ⌝ }
 {
     if 7 < modes {
         return 10;

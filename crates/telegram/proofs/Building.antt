@@ -10,9 +10,9 @@ use borrow.Author.Tests.{lt-ltb, le-ltb, ltb-false, leb-true, eqb-true, not-fals
 use lib.Dec.{leb, ltb, eqb}
 use lib.ListN.{length, length-append}
 use Rattle.checksum.specs.Checksum.{checksumOf}
-use Rattle.telegram.specs.Numbers.{refused, done, refuse}
+use Rattle.telegram.specs.Numbers.{refused, done, fitted}
 use Rattle.telegram.specs.Telegram.{listed, unsealed, telegramOf, building}
-use Rattle.telegram.proofs.Outcomes.{done-one, passed}
+use Rattle.telegram.proofs.Outcomes.{done-one, passed, fit-small, fit-done}
 
 -- A listed length is at most 8.
 one-of : (b₁ b₂ b₃ : Bool) (n : ℕ) → (b₁ ≡ true → n ≤ 8) → (b₂ ≡ true → n ≤ 8) → (b₃ ≡ true → n ≤ 8)
@@ -49,18 +49,16 @@ module _ (a c : ℕ) (p : List ℕ) (room : ℕ) where
   unfolding building
   build-length h₁ h₂ h = simp (le-ltb _ _ h₁, le-ltb _ _ h₂, h)
 
-  pub build-room : Sendable a c p → room < 4 + length p → building a c p room ≡ refused 9
-  unfolding building
-  build-room v h = simp (le-ltb _ _ (v .address), le-ltb _ _ (v .command), v .size, lt-ltb _ _ h)
-
-  pub build-done : Sendable a c p → 4 + length p ≤ room → building a c p room ≡ done (telegramOf a c p)
-  unfolding building
-  build-done v h = simp (le-ltb _ _ (v .address), le-ltb _ _ (v .command), v .size, le-ltb _ _ h)
-
   -- Of fields that can be sent, only the room is left to test.
-  pub build-sendable : Sendable a c p → building a c p room ≡ refuse (ltb room (4 + length p)) 9 (done (telegramOf a c p))
+  pub build-sendable : Sendable a c p → building a c p room ≡ fitted room (telegramOf a c p)
   unfolding building
   build-sendable v = simp (le-ltb _ _ (v .address), le-ltb _ _ (v .command), v .size)
+
+  pub build-room : Sendable a c p → room < 4 + length p → building a c p room ≡ refused 9
+  build-room v h = build-sendable v ∙ fit-small room (telegramOf a c p) (omega (arith, telegram-length a c p))
+
+  pub build-done : Sendable a c p → 4 + length p ≤ room → building a c p room ≡ done (telegramOf a c p)
+  build-done v h = build-sendable v ∙ fit-done room (telegramOf a c p) (omega (arith, telegram-length a c p))
 
   -- What was built could be sent, and is its telegram.
   pub built : {s : List ℕ} → building a c p room ≡ done s → Sendable a c p × (telegramOf a c p ≡ s)
@@ -69,7 +67,7 @@ module _ (a c : ℕ) (p : List ℕ) (room : ℕ) where
       let p₁ = passed _ _ _ e in
       let p₂ = passed _ _ _ (p₁ .1) in
       let p₃ = passed _ _ _ (p₂ .1) in
-      let p₄ = passed (ltb room (4 + length p)) 9 (done (telegramOf a c p)) (p₃ .1) in (
+      let p₄ = passed (ltb room (length (telegramOf a c p))) 9 (done (telegramOf a c p)) (p₃ .1) in (
         record {
           address = ltb-false 1023 a (p₁ .0);
           command = ltb-false 127 c (p₂ .0);

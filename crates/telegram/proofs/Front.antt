@@ -9,7 +9,11 @@ use lib.Seq.{drop-cons, set-append-seam, append-snoc, take-append-seam, drop-app
 use borrow.Rule.Slice.PartMut.{putMid, post-is}
 use Rattle.checksum.specs.Checksum.{checksumOf}
 use Rattle.telegram.specs.Numbers.{front}
-use Rattle.telegram.specs.Telegram.{overwritten, header, unsealed, telegramOf, indexOf}
+use Rattle.telegram.specs.Telegram.{header, unsealed, telegramOf, indexOf}
+
+-- A list with the bytes s written over it from an index on.
+abbrev pub overwritten : List ℕ → ℕ → List ℕ → List ℕ
+overwritten d at s = (take at d ++ s) ++ drop (at + length s) d
 
 pub front-take : (bs out : List ℕ) → take (length bs) (front bs out) ≡ bs
 front-take bs out = take-append-seam bs (drop (length bs) out)

@@ -3,9 +3,11 @@
 use mathlib.Core.Path.{_≡_, refl, sym, ap, _∙_}
 use mathlib.Core.Bool.{Bool, true, false}
 use mathlib.Core.List.{List}
-use Prim.Native.Nat.{ℕ}
+use Prim.Native.Nat.{ℕ, _≤_, _<_}
 use native.Mathlib.Omega.{arith}
-use Rattle.telegram.specs.Numbers.{Outcome, refused, done, refuse, after, front, leaves}
+use lib.ListN.{length}
+use borrow.Author.Tests.{lt-ltb, le-ltb}
+use Rattle.telegram.specs.Numbers.{Outcome, refused, done, refuse, after, fitted, front, leaves}
 
 -- A refusal is never done.
 pub never : {A : Type 0} {n : ℕ} {a : A} → _≡_ {A = Outcome A} (refused n) (done a) → ⊥
@@ -32,6 +34,13 @@ after-refused o next e = ap (λ (x : Outcome _). after x next) e
 
 pub after-done : {A B : Type 0} (o : Outcome A) (next : A → Outcome B) {a : A} → o ≡ done a → after o next ≡ next a
 after-done o next e = ap (λ (x : Outcome _). after x next) e
+
+-- A result that does not fit the room, and one that does.
+pub fit-small : (room : ℕ) (s : List ℕ) → room < length s → fitted room s ≡ refused 9
+fit-small room s h = simp (lt-ltb _ _ h)
+
+pub fit-done : (room : ℕ) (s : List ℕ) → length s ≤ room → fitted room s ≡ done s
+fit-done room s h = simp (le-ltb _ _ h)
 
 -- What a function f says of an outcome that is bytes, and what that leaves in the room: where it is a refusal, where it is done,
 -- and of an equal outcome.

@@ -3,6 +3,7 @@
 use Prim.Native.Nat.{ℕ}
 use mathlib.Core.Bool.{Bool, true, false}
 use mathlib.Core.List.{List, _++_}
+use lib.Dec.{ltb}
 use lib.ListN.{length, drop}
 use Rattle.telegram.specs.declared.Refusal.{Refusal}
 use Rattle.telegram.specs.declared.Refusal.the-variants.{TooShort, Preamble, SizeIndex, ByteCount, Checksum, UnknownCommand, CastNotAllowed, PayloadSize, RoomTooSmall, OutOfRange, NoChain, InitPastEnd, NoLamp}
@@ -49,6 +50,10 @@ builtAs (Refused e) = refused (numberOf e)
 abbrev pub counted : Outcome (List ℕ) → Outcome ℕ
 counted (refused n) = refused n
 counted (done s) = done (length s)
+
+-- Room is too small when it is shorter than what would be written: 9.
+abbrev pub fitted : ℕ → List ℕ → Outcome (List ℕ)
+fitted room s = refuse (ltb room (length s)) 9 (done s)
 
 -- Bytes written to the front of a lent room; the bytes past the last written one stay.
 abbrev pub front : List ℕ → List ℕ → List ℕ

@@ -6,7 +6,7 @@ use mathlib.Core.List.{List, [], _∷_, _++_}
 use lib.Dec.{eqb, ltb, leb}
 use lib.ListN.{length, getD, take, drop}
 use Rattle.checksum.specs.Checksum.{checksumOf}
-use Rattle.telegram.specs.Numbers.{Outcome, refused, done, refuse, after, numberOf}
+use Rattle.telegram.specs.Numbers.{Outcome, refused, done, refuse, after, fitted, numberOf}
 use Rattle.telegram.specs.declared.Telegram.{Telegram}
 use Rattle.telegram.specs.declared.Refusal.{Refusal}
 use Rattle.telegram.specs.declared.Refusal.the-variants.{TooShort}
@@ -98,12 +98,7 @@ building a c p room =
     refuse (ltb 1023 a) 10
     (refuse (ltb 127 c) 10
     (refuse (not (listed (length p))) 10
-    (refuse (ltb room (4 + length p)) 9
-    (done (telegramOf a c p)))))
-
--- What `put_at` leaves of a list: the bytes s stand in it from an index on.
-abbrev pub overwritten : List ℕ → ℕ → List ℕ → List ℕ
-overwritten room i s = (take i room ++ s) ++ drop (i + length s) room
+    (fitted room (telegramOf a c p))))
 
 -- Each element is a byte.
 abbrev pub Bytes : List ℕ → Type 0

@@ -1,12 +1,13 @@
 // Single telegrams: document 01, "The bytes of a telegram" and "Numbers given back".
 ghost use mathlib.Core.Path.{_≡_};
 ghost use Prim.Native.Nat.{_+_, _*_, _/_, _%_, _≤_, _<_};
-ghost use lib.ListN.{length, take, set};
+ghost use mathlib.Core.List.{_++_};
+ghost use lib.ListN.{length, take, drop, set};
 ghost use Rattle.checksum.specs.Checksum.{checksumOf};
 ghost use Rattle.telegram.specs.Numbers.{numberOf, builtAs, counted, front, leaves};
-ghost use Rattle.telegram.specs.Telegram.{readAs, refusalIn, sizeOf, framing, reading, checksumRight, header, listed, indexOf, telegramOf, building, overwritten};
+ghost use Rattle.telegram.specs.Telegram.{readAs, refusalIn, sizeOf, framing, reading, checksumRight, header, listed, indexOf, telegramOf, building};
 
-// An address on the chain, of 10 bits. A lamp's place is another kind of number.
+// An address on the chain, of 10 bits. A lamp's place in the chain is another kind of number, with a type of its own.
 pub struct Address(pub u16);
 
 // A telegram that was read. Its payload stays in the slice: `size` bytes from index 3 on.
@@ -175,7 +176,7 @@ fn index_of(n: usize) -> u8
     if n == 8 { 7 } else { n as u8 }
 }
 
-// The first three bytes of a telegram, each from the fields that it holds.
+// Byte 0: preamble and the top of the address.
 fn byte_0(a: u16) -> u8
     requires { ⌜ a ≤ 1023 ⌝ }
     ensures { λ r. ⌜ r ≡ 160 + a / 64 ⌝ }
@@ -183,6 +184,7 @@ fn byte_0(a: u16) -> u8
     (160 + a / 64) as u8
 }
 
+// Byte 1: the rest of the address and the top of the size index.
 fn byte_1(a: u16, index: u8) -> u8
     requires { ⌜ index ≤ 7 ⌝ }
     ensures { λ r. ⌜ r ≡ a % 64 * 4 + index / 2 ⌝ }
@@ -190,6 +192,7 @@ fn byte_1(a: u16, index: u8) -> u8
     (a % 64 * 4) as u8 + index / 2
 }
 
+// Byte 2: the rest of the size index and the command.
 fn byte_2(index: u8, c: u8) -> u8
     requires { ⌜ c ≤ 127 ⌝ }
     ensures { λ r. ⌜ r ≡ index % 2 * 128 + c ⌝ }
@@ -213,7 +216,7 @@ fn write_header(a: u16, index: u8, c: u8, out: &mut [u8])
 // Copies `src` into `dst`, from the index `at` on.
 fn put_at(src: &[u8], dst: &mut [u8], at: usize)
     requires { ⌜ at + length (now src) ≤ length (now dst) ⌝ }
-    ensures { λ _. ⌜ now (dst .exit) ≡ overwritten (now (dst .entry)) at (now (src .entry)) ⌝ }
+    ensures { λ _. ⌜ now (dst .exit) ≡ (take at (now (dst .entry)) ++ now (src .entry)) ++ drop (at + length (now (src .entry))) (now (dst .entry)) ⌝ }
 {
     bytes::copy(src, &mut dst[at..]);
 }

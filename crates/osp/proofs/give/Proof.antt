@@ -1,14 +1,13 @@
 -- `osp::give` meets its contract.
 -- Assumes nothing.
-use mathlib.Core.Path.{_≡_, refl, ap}
+use mathlib.Core.Path.{refl, ap}
 use mathlib.Core.List.{_++_}
-use Prim.Native.Nat.{ℕ, _+_, _*_, _%_}
-use native.Mathlib.Omega.{arith}
+use Prim.Native.Nat.{ℕ, _+_, _*_}
 use borrow.Author.Needs.{needs}
-use lib.ListN.{length, length-append}
+use lib.ListN.{length-append}
 use Rattle.osp.specs.Interface.{returned}
-use Rattle.telegram.proofs.Outcomes.{told-refused, told-done}
-use Rattle.osp.proofs.Giving.{fit-small, fit-done, two-copies}
+use Rattle.telegram.proofs.Outcomes.{fit-small, fit-done, told-refused, told-done}
+use Rattle.osp.proofs.Giving.{two-copies}
 use Rattle.osp.proofs.give.Statement.{statement}
 use Rattle.osp.proofs.give.Tie as tie
 
@@ -34,8 +33,7 @@ give-spec =
     let a = t .before .before .before .before .args in
     let h = a .head .now in
     let p = a .payload .now in
-    let n : (length h + length p) % 65536 ≡ length h + length p = omega (arith, t .before .before .before .before .pre) in
     told-done returned _ _
     (fit-done _ (h ++ p) (simp length-append (t .if1 .left)))
-    (ap (λ (x : ℕ). x * 256) (simp length-append n))
+    (ap (λ (x : ℕ). x * 256) (simp length-append))
     (two-copies h p (a .out .now) (t .if1 .left) (k .copy .ensures .1) (c .before .before .copy2 .ensures .1))))

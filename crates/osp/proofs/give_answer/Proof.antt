@@ -4,12 +4,13 @@ use mathlib.Core.Path.{ap, sym}
 use native.Mathlib.Omega.{arith}
 use borrow.Author.Needs.{needs}
 use lib.ListN.{length}
+use Rattle.telegram.specs.Numbers.{fitted}
 use Rattle.telegram.proofs.Outcomes.{told-same}
 use Rattle.command.specs.Fields.{answerLayoutOf}
 use Rattle.command.specs.Answers.{answerMessageOf, replyOf}
 use Rattle.command.proofs.LaidOut.{LaidOut, laid-out}
 use Rattle.command.proofs.Sound.{answer-short}
-use Rattle.osp.specs.Interface.{returned, fitted}
+use Rattle.osp.specs.Interface.{returned}
 use Rattle.osp.proofs.Giving.{parts-short, parts-taken, reply-bytes}
 use Rattle.osp.proofs.give_answer.Statement.{statement}
 use Rattle.osp.proofs.give_answer.Tie as tie
@@ -28,16 +29,18 @@ give-answer-spec =
     (λ c κs. tt)
     (λ c κs. tt)
     (λ c κs. tt)
-    (λ c κs. tt)
+    (λ c κs.
+    let p = c .before .before .before .before in
+    parts-short (laid p) (answer-short (p .before .before .args .d .answer)))
     (λ c. search needs)
     (λ c. laid (c .before .before .before .before .before .before) .within)
     (λ c.
     let p = c .before .before .before .before .before .before .before in
-    sym (parts-taken (laid p) (answer-short (p .before .before .args .d .answer))))
+    sym (parts-taken (laid p)))
     (λ c κs.
     let p = c .before .before .before .before .before .before .before .before in
     let k = answer-short (p .before .before .args .d .answer) in
-    omega (arith, parts-taken (laid p) k, parts-short (laid p) k))
+    omega (arith, parts-taken (laid p), parts-short (laid p) k))
     (λ c. search needs)
     (λ c.
     let g = c .before .before in
@@ -46,6 +49,6 @@ give-answer-spec =
     let a = p .before .before .args in
     told-same returned (a .out .now)
     (ap (fitted (length (a .out .now)))
-    (reply-bytes (replyOf (a .d)) (laid p) (answer-short (a .d .answer)) (z .before .before .high .ensures) (z .before .low .ensures) (z .size-byte .ensures)))
+    (reply-bytes (replyOf (a .d)) (laid p) (z .before .before .high .ensures) (z .before .low .ensures) (z .size-byte .ensures)))
     (g .give .ensures .0)
     (g .give .ensures .1)))

@@ -3,8 +3,9 @@
 use mathlib.Core.Path.{ap}
 use borrow.Author.Needs.{needs}
 use lib.ListN.{length}
+use Rattle.telegram.specs.Numbers.{fitted}
 use Rattle.telegram.proofs.Outcomes.{told-same}
-use Rattle.osp.specs.Interface.{returned, fitted}
+use Rattle.osp.specs.Interface.{returned}
 use Rattle.osp.proofs.Giving.{read-bytes}
 use Rattle.osp.proofs.give_telegram.Statement.{statement}
 use Rattle.osp.proofs.give_telegram.Tie as tie
@@ -15,7 +16,7 @@ give-telegram-spec =
     (tie.spec
     (λ c κs. tt)
     (λ c κs. tt)
-    (λ c κs. tt)
+    (λ c κs. search needs)
     (λ c. search needs)
     (λ c. search needs)
     (λ c. search needs)
@@ -30,6 +31,6 @@ give-telegram-spec =
     let a = s .args in
     told-same returned (a .out .now)
     (ap (fitted (length (a .out .now)))
-    (read-bytes (a .s .now) (a .t) (s .pre .1) (z .before .before .high .ensures) (z .before .low .ensures) (z .size-byte .ensures)))
+    (read-bytes (a .s .now) (a .t) (z .before .before .high .ensures) (z .before .low .ensures) (z .size-byte .ensures)))
     (g .give .ensures .0)
     (g .give .ensures .1)))

@@ -1,11 +1,11 @@
 -- `osp::osp_build` meets its contract.
 -- Assumes nothing.
-use mathlib.Core.Path.{_∙_, refl}
+use mathlib.Core.Path.{_∙_, refl, ap}
 use borrow.Author.Needs.{needs}
 use Rattle.telegram.proofs.Outcomes.{told-refused}
 use Rattle.telegram.proofs.Building.{build-address, build-command}
-use Rattle.osp.specs.Interface.{returned}
-use Rattle.osp.proofs.Giving.{built-returns, built-short}
+use Rattle.osp.specs.Interface.{packed, returned}
+use Rattle.osp.proofs.Giving.{count-short, built-short}
 use Rattle.osp.proofs.osp_build.Statement.{statement}
 use Rattle.osp.proofs.osp_build.Tie as tie
 
@@ -18,8 +18,10 @@ osp-build-spec =
     (λ c. search needs)
     (λ c. search needs)
     (λ c κs. tt)
-    (λ c κs. tt)
+    (λ c κs.
+    let b = c .before .before in
+    count-short (b .build-telegram .result) _ (b .build-telegram .ensures .0) (built-short _ _ _ _))
     (λ c. search needs)
     (λ c.
     let b = c .before .before .before in
-    (c .built-returned .ensures ∙ built-returns (b .build-telegram .result) _ (b .build-telegram .ensures .0) (built-short _ _ _ _), b .build-telegram .ensures .1)))
+    (c .built-returned .ensures ∙ ap packed (b .build-telegram .ensures .0), b .build-telegram .ensures .1)))

@@ -7,12 +7,12 @@ use Rattle.telegram.proofs.Outcomes.{after-refused, after-done, told-refused, t
 use Rattle.command.specs.Commands.{composedAs}
 use Rattle.command.proofs.Table.{row-high}
 use Rattle.command.proofs.Naming.{compose-unknown}
-use Rattle.osp.specs.Interface.{returned, osp-build-command}
+use Rattle.osp.specs.Interface.{returned, ospBuildCommand}
 use Rattle.osp.proofs.osp_build_command.Statement.{statement}
 use Rattle.osp.proofs.osp_build_command.Tie as tie
 
 pub osp-build-command-spec : {M : Type 1} → statement M
-unfolding osp-build-command
+unfolding ospBuildCommand
 osp-build-command-spec =
     tie.close
     (tie.spec

@@ -5,7 +5,7 @@ use borrow.Author.Needs.{needs}
 use lib.ListN.{length}
 use Rattle.telegram.proofs.Outcomes.{told-refused, told-same}
 use Rattle.command.specs.Commands.{Message}
-use Rattle.osp.specs.Interface.{returned, building-directed}
+use Rattle.osp.specs.Interface.{returned, buildingDirected}
 use Rattle.osp.proofs.BuildPwm.{modes-out, red-out, green-out, blue-out, pwm-directed, pwm-message}
 use Rattle.osp.proofs.osp_build_pwm.Statement.{statement}
 use Rattle.osp.proofs.osp_build_pwm.Tie as tie
@@ -37,7 +37,7 @@ osp-build-pwm-spec =
     let t = r .before in
     let a = t .before .before .before .before .before .args in
     told-same returned _
-    (ap (λ (m : Message). building-directed m (a .cast) (a .value) (length (a .out .now)))
+    (ap (λ (m : Message). buildingDirected m (a .cast) (a .value) (length (a .out .now)))
     (pwm-message (a .modes) (a .red) (a .green) (a .blue) (r .pwm-from .result) (g .pwm-from2 .result) (b .pwm-from3 .result)
     (r .pwm-from .ensures) (g .pwm-from2 .ensures) (b .pwm-from3 .ensures))
     ∙ sym

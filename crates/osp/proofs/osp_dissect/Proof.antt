@@ -4,12 +4,12 @@ use mathlib.Core.Path.{_∙_, sym, ap}
 use borrow.Author.Needs.{needs}
 use Rattle.telegram.proofs.Outcomes.{after-refused, after-done, told-refused, told-same}
 use Rattle.command.specs.Commands.{dissectionAs}
-use Rattle.osp.specs.Interface.{returned, osp-dissect}
+use Rattle.osp.specs.Interface.{returned, ospDissect}
 use Rattle.osp.proofs.osp_dissect.Statement.{statement}
 use Rattle.osp.proofs.osp_dissect.Tie as tie
 
 pub osp-dissect-spec : {M : Type 1} → statement M
-unfolding osp-dissect
+unfolding ospDissect
 osp-dissect-spec =
     tie.close
     (tie.spec

@@ -4,12 +4,12 @@ use mathlib.Core.Path.{_∙_, sym, ap}
 use borrow.Author.Needs.{needs}
 use Rattle.telegram.proofs.Outcomes.{after-refused, after-done, told-refused, told-same}
 use Rattle.command.specs.Answers.{replyAs}
-use Rattle.osp.specs.Interface.{returned, osp-dissect-answer}
+use Rattle.osp.specs.Interface.{returned, ospDissectAnswer}
 use Rattle.osp.proofs.osp_dissect_answer.Statement.{statement}
 use Rattle.osp.proofs.osp_dissect_answer.Tie as tie
 
 pub osp-dissect-answer-spec : {M : Type 1} → statement M
-unfolding osp-dissect-answer
+unfolding ospDissectAnswer
 osp-dissect-answer-spec =
     tie.close
     (tie.spec

@@ -8,7 +8,7 @@ use Rattle.telegram.specs.Numbers.{done}
 use Rattle.telegram.specs.Telegram.{reading, readAs}
 use Rattle.telegram.proofs.Outcomes.{after-refused, after-done, told-refused, told-same}
 use Rattle.telegram.proofs.Reading.{accepted-count, accepted-size, refusal-is}
-use Rattle.osp.specs.Interface.{returned, osp-read}
+use Rattle.osp.specs.Interface.{returned, ospRead}
 use Rattle.osp.proofs.osp_read.Statement.{statement}
 use Rattle.osp.proofs.osp_read.Tie as tie
 
@@ -17,7 +17,7 @@ read-is : (c : tie.After-known-told) → reading (now (c .before .before .before
 read-is c = sym (c .before .before .before .read-telegram .ensures) ∙ ap readAs (c .before .r .given .1)
 
 pub osp-read-spec : {M : Type 1} → statement M
-unfolding osp-read
+unfolding ospRead
 osp-read-spec =
     tie.close
     (tie.spec
