@@ -4,4 +4,4 @@ use Rattle.command.proofs.duties_fit.Statement.{statement}
 use Rattle.command.proofs.duties_fit.Tie as tie
 
 pub duties-fit-spec : {M : Type 1} → statement M
-duties-fit-spec = tie.close (tie.spec (λ c κs. tt) (λ c κs. tt) (λ c. cc))
+duties-fit-spec = tie.close (tie.spec (λ c κs. tt) (λ c κs. tt) (λ c. rw (c .and2 .ensures, c .before .and .ensures)))

@@ -1,7 +1,11 @@
 -- `telegram::read_frame` meets its contract: at each return the tests that led there pick the line of `framing`.
 -- Assumes nothing.
+use mathlib.Core.Path.{_∙_, ap, ap₂}
+use Prim.Native.Nat.{ℕ}
 use borrow.Author.Needs.{needs}
 use native.Mathlib.Omega.{arith}
+use Rattle.telegram.specs.Numbers.{done}
+use Rattle.telegram.specs.Telegram.{commandIn, sizeOf}
 use Rattle.telegram.proofs.Reading.{frame-short, frame-preamble, frame-index, frame-count, frame-done}
 use Rattle.telegram.proofs.read_frame.Statement.{statement}
 use Rattle.telegram.proofs.read_frame.Tie as tie
@@ -12,9 +16,12 @@ returns-4 c =
 
 returns-5 : tie.Need-returns-5
 returns-5 c =
-    let s = c .before .before .before .before .before .before .before .before .before .before .before .args .s .now in
-    cc
-    (frame-done s (omega arith) (omega arith) (λ e. c .before .before .before .if3 .left (omega arith)) (cc))
+    let z = c .before .before in
+    let i = z .before .before in
+    let s = i .before .before .before .before .before .before .before .args .s .now in
+    ap₂ (λ (a n : ℕ). done (record { address = record { 0 = a }; command = commandIn s; size = n })) (c .address-in .ensures)
+    (z .size-of .ensures .0 ∙ ap sizeOf (i .index-in .ensures))
+    ∙ frame-done s (omega arith) (omega arith) (λ e. z .before .if3 .left (omega arith)) (cc)
 
 pub read-frame-spec : {M : Type 1} → statement M
 read-frame-spec =
