@@ -1,5 +1,6 @@
 /*
- * osp.h - single OSP telegrams and named commands, read, built and dissected.
+ * osp.h - single OSP telegrams and named commands, read, built and dissected,
+ * and a modelled chain of lamps that takes telegrams and gives answers.
  *
  * Link with libosp.a. Every function ends with an answer on any bytes and any
  * field values, and is proved against a definition of what it gives back.
@@ -8,11 +9,16 @@
  * and its length. The pointers are not null, not even for no bytes, and a room
  * does not overlap an input.
  *
- * Every function but osp_checksum returns number + 256 * count:
- *   number  0 is done; 1 to 10 is a refusal (OSP_ERR_*).
+ * Every function but osp_checksum and osp_record_len returns number + 256 * count:
+ *   number  0 is done; 1 to 13 is a refusal (OSP_ERR_*).
  *   count   how many bytes were written to the front of the room; 0 on refusal.
- * On a refusal every byte of the room stays as it was. When done, the bytes
- * past the last written one stay.
+ * On a refusal every byte of the room and of the record stays as it was, but
+ * OSP_ERR_CHECKSUM at delivery sets CE on the lamp at place 0. When done, the
+ * bytes past the last written one stay.
+ *
+ * A chain lies in a record: memory that the caller lends, as docs/RECORD.md
+ * describes. Any bytes may be given as a record; what holds no valid chain is
+ * refused. Bytes behind the record's end stay.
  */
 #ifndef OSP_H
 #define OSP_H
@@ -37,10 +43,13 @@ enum {
     OSP_ERR_BYTE_COUNT = 4,   /* byte count is not 4 + payload size */
     OSP_ERR_CHECKSUM = 5,     /* checksum differs */
     OSP_ERR_COMMAND = 6,      /* unknown command, or an answer to a command that has none */
-    OSP_ERR_CAST = 7,         /* cast not allowed */
+    OSP_ERR_CAST = 7,         /* cast not allowed, or init at 000 while a lamp has no address */
     OSP_ERR_PAYLOAD_SIZE = 8, /* payload size wrong for the command */
     OSP_ERR_ROOM = 9,         /* room too small */
-    OSP_ERR_RANGE = 10        /* builder field or duty out of range, or payload length not listed */
+    OSP_ERR_RANGE = 10,       /* builder field, duty or fault number out of range, or payload length not listed */
+    OSP_ERR_CHAIN = 11,       /* lamp count not 1 to 1007, or no valid chain */
+    OSP_ERR_INIT = 12,        /* init runs past 3EF */
+    OSP_ERR_PLACE = 13        /* no lamp at that place */
 };
 
 /* To whom a command goes. */
@@ -99,6 +108,40 @@ uint32_t osp_build_command(uint32_t command, uint32_t cast, uint32_t value, cons
  */
 uint32_t osp_build_pwm(uint32_t cast, uint32_t value, uint32_t modes, uint32_t red, uint32_t green, uint32_t blue,
                        uint8_t *out, size_t room);
+
+/* The shortest room for an answer at delivery, and the length of a lamp that is read out. */
+#define OSP_ANSWER_ROOM 12
+#define OSP_LAMP_LEN 18
+
+/* How many bytes the record of a chain of count lamps has; 0 for a count that is not 1 to 1007. */
+uint32_t osp_record_len(uint32_t count);
+
+/*
+ * Makes a chain of count fresh lamps in a record of len bytes, with a default
+ * setup byte and three default thresholds. Refusals 11, then 9.
+ */
+uint32_t osp_make(uint8_t *record, size_t len, uint32_t count, uint8_t setup, uint8_t t0, uint8_t t1, uint8_t t2);
+
+/*
+ * Delivers a telegram of n bytes to the chain. Refusals 9 (room under 12
+ * bytes), 11, 1 to 8, then 12. Writes the answer, if there is one.
+ */
+uint32_t osp_deliver(uint8_t *record, size_t len, const uint8_t *s, size_t n, uint8_t *out, size_t room);
+
+/*
+ * A sensor report for a place (0 is the lamp nearest the host): stores a
+ * temperature and sets the flags named by faults, a sum of 4 for LOS, 2 for OT
+ * and 1 for UV; no flag is cleared. Refusals 11, 13, then 10.
+ */
+uint32_t osp_sense(uint8_t *record, size_t len, uint32_t place, uint8_t temperature, uint32_t faults);
+
+/*
+ * Reads out the lamp at a place. Refusals 11, 13, then 9.
+ * Writes the address (2 bytes, high byte first), state, COM, the five flags as
+ * they lie in the status byte, temperature, thresholds (3), setup, group word
+ * (2) and PWM (6).
+ */
+uint32_t osp_lamp(const uint8_t *record, size_t len, uint32_t place, uint8_t *out, size_t room);
 
 #ifdef __cplusplus
 }

@@ -24,34 +24,171 @@ enum Digit {
 fn main() {
     let mut text = io::large_buffer();
     let n = io::read_full(STDIN_FILENO, &mut text);
-    run_lines(&text[..n]);
+    let mut memory = [FILL; 16384];
+    run_lines(&text[..n], &mut memory);
 }
 
-// Runs each line.
-fn run_lines(text: &[u8]) {
+// Runs each line; `memory` is the chain memory, of which the cases lend a part.
+fn run_lines(text: &[u8], memory: &mut [u8]) {
     let n = text.len();
+    let mut lent = 0;
     let mut at = 0;
     while at < n {
         let end = bytes::scan::find(text, at, n, b'\n');
-        run_line(&text[at..end]);
+        lent = run_line(&text[at..end], memory, lent);
         at = end + 1;
     }
 }
 
-// Prints a line and, where it is a case, its result.
-fn run_line(line: &[u8]) {
+// Prints a line and, where it is a case, its result. Gives how much of the chain memory is lent from then on.
+fn run_line(line: &[u8], memory: &mut [u8], lent: usize) -> usize {
     print(line);
     print(b"\n");
     let operation = byte_at(line, 0);
     if operation == 0 {
-        return;
+        return lent;
     }
-    if operation != b'#' {
-        let case = bytes_of(line);
-        let s = case.bytes;
-        let k = within(case.used, &s);
-        run_case(operation, &s[..k]);
+    if operation == b'#' {
+        return lent;
     }
+    let case = bytes_of(line);
+    let s = case.bytes;
+    let k = within(case.used, &s);
+    if of_a_chain(operation) {
+        return run_chain(operation, &s[..k], memory, lent);
+    }
+    run_case(operation, &s[..k]);
+    lent
+}
+
+// Whether an operation is one on a chain.
+fn of_a_chain(operation: u8) -> bool {
+    match operation {
+        b'k' => true,
+        b'l' => true,
+        b'm' => true,
+        b'n' => true,
+        b't' => true,
+        b'w' => true,
+        _ => false,
+    }
+}
+
+// Runs a case on a chain. Gives how much of the chain memory is lent from then on.
+fn run_chain(operation: u8, s: &[u8], memory: &mut [u8], lent: usize) -> usize {
+    let n = within(lent, memory);
+    match operation {
+        b'k' => {
+            print_length(osp::osp_record_len(long_at(s, 0)));
+            lent
+        }
+        b'm' => make_chain(s, memory),
+        b'w' => {
+            overwrite(s, &mut memory[..n]);
+            print_record(memory, n);
+            lent
+        }
+        b't' => {
+            deliver(s, &mut memory[..n]);
+            print_record(memory, n);
+            lent
+        }
+        b'n' => {
+            report(s, &mut memory[..n]);
+            print_record(memory, n);
+            lent
+        }
+        _ => {
+            read_lamp(s, first(memory, n));
+            lent
+        }
+    }
+}
+
+// m LENGTH COUNT SETUP T0 T1 T2
+fn make_chain(s: &[u8], memory: &mut [u8]) -> usize {
+    fill(memory);
+    let n = within(long_at(s, 0) as usize, memory);
+    let result = osp::osp_make(
+        &mut memory[..n],
+        long_at(s, 4),
+        byte_at(s, 8),
+        byte_at(s, 9),
+        byte_at(s, 10),
+        byte_at(s, 11),
+    );
+    print_result(result, b"");
+    print_record(memory, n);
+    n
+}
+
+// Fills the chain memory.
+fn fill(memory: &mut [u8]) {
+    let mut i = 0;
+    while i < memory.len() {
+        memory[i] = FILL;
+        i += 1;
+    }
+}
+
+// w AT BYTES
+fn overwrite(s: &[u8], memory: &mut [u8]) {
+    let at = within(long_at(s, 0) as usize, memory);
+    put_all(from(s, 4), &mut memory[at..]);
+}
+
+// Copies the bytes that fit.
+fn put_all(src: &[u8], dst: &mut [u8]) {
+    let mut i = 0;
+    while i < src.len() {
+        put_one(dst, i, src[i]);
+        i += 1;
+    }
+}
+
+fn put_one(dst: &mut [u8], i: usize, b: u8) {
+    if i < dst.len() {
+        dst[i] = b;
+    }
+}
+
+// t ROOM BYTES
+fn deliver(s: &[u8], memory: &mut [u8]) {
+    let mut out = [FILL; 48];
+    let room = within(byte_at(s, 0) as usize, &out);
+    let result = osp::osp_deliver(memory, from(s, 1), &mut out[..room]);
+    print_room(result, &out);
+}
+
+// n PLACE TEMPERATURE FAULTS
+fn report(s: &[u8], memory: &mut [u8]) {
+    let result = osp::osp_sense(memory, long_at(s, 0), byte_at(s, 4), long_at(s, 5));
+    print_result(result, b"");
+}
+
+// l ROOM PLACE
+fn read_lamp(s: &[u8], memory: &[u8]) {
+    let mut out = [FILL; 48];
+    let room = within(byte_at(s, 0) as usize, &out);
+    let result = osp::osp_lamp(memory, long_at(s, 1), &mut out[..room]);
+    print_room(result, &out);
+}
+
+// The checksum of the lent chain memory.
+fn print_record(memory: &[u8], lent: usize) {
+    print(b"  record ");
+    print_hex(osp::osp_checksum(first(memory, lent)));
+    print(b"\n");
+}
+
+// The length of a record, as four bytes.
+fn print_length(n: u32) {
+    print(b"  ");
+    print_hex((n / 16777216 % 256) as u8);
+    print_hex((n / 65536 % 256) as u8);
+    print_hex((n / 256 % 256) as u8);
+    print_hex((n % 256) as u8);
+    print(b"\n");
 }
 
 // The hexadecimal digits behind the first character of a line, two a byte.
@@ -181,6 +318,12 @@ fn unchanged(out: &[u8]) -> bool {
 fn from(s: &[u8], at: usize) -> &[u8] {
     let k = within(at, s);
     &s[k..]
+}
+
+// The first n bytes; all where there are not so many.
+fn first(s: &[u8], n: usize) -> &[u8] {
+    let k = within(n, s);
+    &s[..k]
 }
 
 // The byte at an index, 0 where there is none.

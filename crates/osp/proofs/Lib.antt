@@ -1,3 +1,4 @@
 pub mod Giving
 pub mod Directing
 pub mod BuildPwm
+pub mod ChainCalls

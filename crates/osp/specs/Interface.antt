@@ -1,7 +1,7 @@
 -- The C interface over numbers and byte slices: what each function returns and what it leaves in the lent room.
 -- Assumes nothing.
 use Prim.Native.Nat.{ℕ, _*_, _/_, _%_}
-use mathlib.Core.Bool.{cond, not, _&&_}
+use mathlib.Core.Bool.{false, cond, not, _&&_}
 use mathlib.Core.List.{List, [], _∷_, _++_}
 use lib.Dec.{eqb, leb, ltb}
 use lib.ListN.{length}
@@ -14,6 +14,13 @@ use Rattle.command.specs.Commands.{Message, numbered, Sent, payloadOf, dissecti
 use Rattle.command.specs.Answers.{Reply, answerPayloadOf, dissectingAnswer}
 use Rattle.command.specs.declared.Cast.{Cast}
 use Rattle.command.specs.declared.Cast.the-variants.{Everyone, One, Group}
+use Rattle.rules.specs.declared.State.the-variants.{Uninitialized}
+use Rattle.rules.specs.declared.Defaults.{Defaults}
+use Rattle.rules.specs.declared.Lamp.{Lamp}
+use Rattle.rules.specs.Lamp.{bit, stateNumber, statusByte}
+use Rattle.rules.specs.Chain.{Chain, countRight}
+use Rattle.chain.specs.Record.{recordLength}
+use Rattle.chain.specs.Memory.{silent, lampRead}
 use Rattle.osp.specs.declared.Directed.{Directed}
 use Rattle.osp.specs.declared.Directed.the-variants.{To, OutOfRange}
 
@@ -86,3 +93,30 @@ ospBuildPwm kind value modes r g b room =
     (refuse (ltb 32767 g) 10
     (refuse (ltb 32767 b) 10
     (buildingDirected (pwmMessage modes r g b) kind value room))))
+
+-- `osp_record_len`: the record's length, 0 for a count that is not 1 to 1007.
+abbrev pub ospRecordLen : ℕ → ℕ
+ospRecordLen n = cond (countRight n) (recordLength n) 0
+
+-- The defaults of a chain from their four bytes.
+abbrev pub defaultsFrom : ℕ → ℕ → ℕ → ℕ → Defaults
+defaultsFrom setup t0 t1 t2 = record { setup = setup; thresholds = record { cycle = t0; low = t1; high = t2 } }
+
+-- What a call that refuses or gives a chain returns: it writes no bytes to a room.
+abbrev pub returnedBare : Outcome Chain → ℕ
+returnedBare o = packed (silent o)
+
+-- `osp_lamp` writes the address (2), state, COM, flags (as in the status byte), temperature, thresholds (3), setup, group word (2) ..
+abbrev pub lampHead : Lamp → List ℕ
+lampHead l =
+    wordBytes (l .address .0)
+    ++ (stateNumber (l .state) ∷ bit (l .direction) ∷ statusByte Uninitialized false (l .flags) ∷ l .temperature ∷ l .thresholds .cycle ∷ l .thresholds .low ∷ l .thresholds .high ∷ l .setup ∷ [])
+    ++ wordBytes (l .groups)
+
+-- .. and PWM (6).
+abbrev pub lampBytes : Lamp → List ℕ
+lampBytes l = lampHead l ++ (wordBytes (l .pwm .red) ++ wordBytes (l .pwm .green) ++ wordBytes (l .pwm .blue))
+
+-- `osp_lamp`: 11, 13, then 9.
+unfoldable pub ospLamp : List ℕ → ℕ → ℕ → Outcome (List ℕ)
+ospLamp mem p room = after (lampRead mem p) (λ (l : Lamp). fitted room (lampBytes l))

@@ -1,4 +1,6 @@
 // The C interface: thin exported functions over numbers and byte slices. include/osp.h has their declarations.
+use chain::Delivered;
+use chain::LampRead;
 use command::AnswerDissection;
 use command::Answered;
 use command::Cast;
@@ -7,6 +9,11 @@ use command::Composed;
 use command::Dissected;
 use command::Dissection;
 use command::Pwm;
+use rules::Defaults;
+use rules::Lamp;
+use rules::Place;
+use rules::State;
+use rules::Thresholds;
 use telegram::Address;
 use telegram::Built;
 use telegram::Read;
@@ -23,7 +30,8 @@ ghost use Rattle.command.specs.Casts.{castKind, castValue};
 ghost use Rattle.command.specs.Fields.{modeOf};
 ghost use Rattle.command.specs.Commands.{messageOf, sentAs};
 ghost use Rattle.command.specs.Answers.{replyOf};
-ghost use Rattle.osp.specs.Interface.{packed, returned, readBytes, ospRead, sentBytes, ospDissect, replyBytes, ospDissectAnswer, directing, directedAs, buildingDirected, ospBuildCommand, ospBuildPwm};
+ghost use Rattle.chain.specs.Memory.{deliveredAs, delivered, held, made, sensedIn};
+ghost use Rattle.osp.specs.Interface.{packed, returned, readBytes, ospRead, sentBytes, ospDissect, replyBytes, ospDissectAnswer, directing, directedAs, buildingDirected, ospBuildCommand, ospBuildPwm, ospRecordLen, defaultsFrom, returnedBare, lampHead, lampBytes, ospLamp};
 
 // A cast from two numbers.
 pub enum Directed {
@@ -318,4 +326,118 @@ pub extern "C" fn osp_build_pwm(
     let g = pwm_from(modes / 2, green);
     let b = pwm_from(modes, blue);
     build_directed(Command::SetPwm(r, g, b), cast, value, out)
+}
+
+// The length of the record of a chain.
+#[no_mangle]
+pub extern "C" fn osp_record_len(count: u32) -> u32
+    ensures { λ r. ⌜ r ≡ ospRecordLen count ⌝ }
+{
+    if count < 1 {
+        return 0;
+    }
+    if 1007 < count {
+        return 0;
+    }
+    6 + 16 * count
+}
+
+// What a call on a chain answered, as it is returned.
+fn delivered_returned(d: Delivered) -> u32
+    requires { ⌜ ((n : ℕ) → deliveredAs d ≡ done n → n < 65536) ⌝ }
+    ensures { λ r. ⌜ r ≡ packed (deliveredAs d) ⌝ }
+{
+    match d {
+        Delivered::Done(n) => n as u32 * 256,
+        Delivered::Refused(e) => refusal_returned(e),
+    }
+}
+
+// Makes a chain: 11, then 9.
+#[no_mangle]
+pub extern "C" fn osp_make(mem: &mut [u8], count: u32, setup: u8, t0: u8, t1: u8, t2: u8) -> u32
+    ensures { λ r. ⌜ r ≡ returnedBare (made (now (mem .entry)) count (defaultsFrom setup t0 t1 t2)) ⌝ }
+    ensures { λ r. ⌜ now (mem .exit) ≡ held (now (mem .entry)) (made (now (mem .entry)) count (defaultsFrom setup t0 t1 t2)) ⌝ }
+{
+    let thresholds = Thresholds {
+        cycle: t0,
+        low: t1,
+        high: t2,
+    };
+    let d = Defaults { setup, thresholds };
+    delivered_returned(chain::make(mem, count as usize, d))
+}
+
+// Delivers a telegram: 9, 11, 1 to 8, 12.
+#[no_mangle]
+pub extern "C" fn osp_deliver(mem: &mut [u8], s: &[u8], out: &mut [u8]) -> u32
+    ensures { λ r. ⌜ r ≡ returned (delivered (now (mem .entry)) (now (s .entry)) (length (now (out .entry))) .outcome) ⌝ }
+    ensures { λ r. ⌜ now (mem .exit) ≡ delivered (now (mem .entry)) (now (s .entry)) (length (now (out .entry))) .memory ⌝ }
+    ensures { λ r. ⌜ now (out .exit) ≡ leaves (delivered (now (mem .entry)) (now (s .entry)) (length (now (out .entry))) .outcome) (now (out .entry)) ⌝ }
+{
+    delivered_returned(chain::deliver(mem, s, out))
+}
+
+// A sensor report: 11, 13, 10.
+#[no_mangle]
+pub extern "C" fn osp_sense(mem: &mut [u8], place: u32, temperature: u8, faults: u32) -> u32
+    ensures { λ r. ⌜ r ≡ returnedBare (sensedIn (now (mem .entry)) place temperature faults) ⌝ }
+    ensures { λ r. ⌜ now (mem .exit) ≡ held (now (mem .entry)) (sensedIn (now (mem .entry)) place temperature faults) ⌝ }
+{
+    delivered_returned(chain::sense(mem, Place(place as usize), temperature, faults))
+}
+
+// Gives a lamp that was read out.
+fn give_lamp(l: Lamp, out: &mut [u8]) -> u32
+    ensures { λ r. ⌜ r ≡ returned (fitted (length (now (out .entry))) (lampBytes l)) ⌝ }
+    ensures { λ r. ⌜ now (out .exit) ≡ leaves (fitted (length (now (out .entry))) (lampBytes l)) (now (out .entry)) ⌝ }
+{
+    let head = lamp_head(l);
+    let w = l.pwm;
+    let pwm = [
+        high(w.red),
+        low(w.red),
+        high(w.green),
+        low(w.green),
+        high(w.blue),
+        low(w.blue),
+    ];
+    give(&head, &pwm, out)
+}
+
+// The bytes of a lamp before its PWM bytes.
+fn lamp_head(l: Lamp) -> [u8; 12]
+    ensures { λ r. ⌜ r ≡ lampHead l ⌝ }
+{
+    let a = l.address;
+    let state = l.state;
+    let flags = l.flags;
+    let t = l.thresholds;
+    [
+        high(a.0),
+        low(a.0),
+        lamp::state_number(state),
+        lamp::bit_number(l.direction),
+        lamp::status_byte(State::Uninitialized, false, flags),
+        l.temperature,
+        t.cycle,
+        t.low,
+        t.high,
+        l.setup,
+        high(l.groups),
+        low(l.groups),
+    ]
+}
+
+// Reads a lamp out: 11, 13, then 9.
+#[no_mangle]
+pub extern "C" fn osp_lamp(mem: &[u8], place: u32, out: &mut [u8]) -> u32
+    ensures { λ r. ⌜ r ≡ returned (ospLamp (now (mem .entry)) place (length (now (out .entry)))) ⌝ }
+    ensures { λ r. ⌜ now (out .exit) ≡ leaves (ospLamp (now (mem .entry)) place (length (now (out .entry)))) (now (out .entry)) ⌝ }
+{
+    let r = chain::read_lamp(mem, Place(place as usize));
+    match r {
+        LampRead::Read(l) => give_lamp(l, out),
+        LampRead::Unread(e) => refusal_returned(e),
+    }
 }

@@ -1,75 +1,113 @@
-//! Memory for one call: the input and the room, guard bytes around both.
+//! Memory for one call: the record, the input and the room, guard bytes around
+//! each.
 
 use crate::random::Random;
 use reference::case::Case;
 use reference::wire::Side;
+use std::ops::Range;
 
 /// The least number of guard bytes on a side.
 const GUARD: usize = 16;
 
-/// Guard, input, guard, room, guard; all but the input is random.
+/// Guard, record, guard, input, guard, room, guard; guards and room are random.
 #[derive(Clone)]
 pub struct Arena {
     memory: Vec<u8>,
-    input: usize,
-    gap: usize,
-    room: usize,
-    behind: usize,
+    record: Range<usize>,
+    input: Range<usize>,
+    room: Range<usize>,
 }
 
 impl Arena {
-    /// Lays out the memory of a case. The guards vary in length, so that input
-    /// and room do not always lie at even addresses.
-    pub fn new(case: &Case, random: &mut Random) -> Arena {
-        let input = GUARD + random.below(8);
-        let gap = input + case.bytes.len();
-        let room = gap + GUARD + random.below(8);
-        let behind = room + case.room;
-        let mut memory = random.bytes(behind + GUARD);
-        memory[input..gap].copy_from_slice(&case.bytes);
+    /// Lays out the memory of a case. The guards vary in length, so that the
+    /// pieces do not always lie at even addresses.
+    pub fn new(case: &Case, record: &[u8], random: &mut Random) -> Arena {
+        let room = random.bytes(case.room);
+        let mut memory = Vec::new();
+        let mut lay = |piece: &[u8]| {
+            let guard = GUARD + random.below(8);
+            memory.extend(random.bytes(guard));
+            memory.extend_from_slice(piece);
+            memory.len() - piece.len()..memory.len()
+        };
+        let (record, input, room) = (lay(record), lay(&case.bytes), lay(&room));
+        memory.extend(random.bytes(GUARD));
         Arena {
             memory,
+            record,
             input,
-            gap,
             room,
-            behind,
         }
     }
 
     /// Makes the call in this memory.
     pub fn run(&mut self, case: &Case, side: &Side) -> u32 {
-        let (front, back) = self.memory.split_at_mut(self.room);
-        let input = &front[self.input..self.gap];
-        case.run(side, input, &mut back[..self.behind - self.room])
+        let (front, back) = self.memory.split_at_mut(self.room.start);
+        let (chain, input) = front.split_at_mut(self.input.start);
+        case.run(
+            side,
+            &mut chain[self.record.clone()],
+            &input[..self.input.len()],
+            &mut back[..self.room.len()],
+        )
+    }
+
+    /// The record.
+    pub fn record(&self) -> &[u8] {
+        &self.memory[self.record.clone()]
     }
 
     /// The room.
     pub fn room(&self) -> &[u8] {
-        &self.memory[self.room..self.behind]
+        &self.memory[self.room.clone()]
     }
 
     /// The first place, if any, that differs from another arena of the same
-    /// layout, the first `written` bytes of the room left out.
-    pub fn change(&self, other: &Arena, written: usize) -> Option<String> {
-        let allowed = self.room..self.room + written.min(self.behind - self.room);
-        (0..self.memory.len())
-            .filter(|at| !allowed.contains(at))
-            .find(|&at| self.memory[at] != other.memory[at])
-            .map(|at| self.place(at))
+    /// layout, some bytes of the record and the first `written` bytes of the
+    /// room left out.
+    pub fn change(&self, other: &Arena, touched: Range<usize>, written: usize) -> Option<usize> {
+        let inside = |at: usize| at.min(self.record.len()) + self.record.start;
+        let behind = self.room.start + written.min(self.room.len());
+        let kept = [
+            0..inside(touched.start),
+            inside(touched.end)..self.room.start,
+            behind..self.memory.len(),
+        ];
+        let mut changed = kept.into_iter().filter_map(|range| {
+            let (old, new) = (&self.memory[range.clone()], &other.memory[range.clone()]);
+            first_difference(old, new).map(|at| range.start + at)
+        });
+        changed.next()
     }
 
     /// What lies at an index.
-    fn place(&self, at: usize) -> String {
-        if at < self.input {
-            format!("guard {} bytes before the input", self.input - at)
-        } else if at < self.gap {
-            format!("input byte {}", at - self.input)
-        } else if at < self.room {
-            format!("guard {} bytes before the room", self.room - at)
-        } else if at < self.behind {
-            format!("room byte {}", at - self.room)
-        } else {
-            format!("guard {} bytes behind the room", at - self.behind + 1)
+    pub fn place(&self, at: usize) -> String {
+        let pieces = [
+            ("record", &self.record),
+            ("input", &self.input),
+            ("room", &self.room),
+        ];
+        for (name, piece) in pieces {
+            if at < piece.start {
+                return format!("guard {} bytes before the {name}", piece.start - at);
+            }
+            if piece.contains(&at) {
+                return format!("{name} byte {}", at - piece.start);
+            }
         }
+        format!("guard {} bytes behind the room", at - self.room.end + 1)
     }
+
+    /// Which byte of the record an index is, if it is one.
+    pub fn record_byte(&self, at: usize) -> Option<usize> {
+        self.record.contains(&at).then(|| at - self.record.start)
+    }
+}
+
+/// The first index at which two pieces of the same length differ.
+fn first_difference(old: &[u8], new: &[u8]) -> Option<usize> {
+    if old == new {
+        return None;
+    }
+    old.iter().zip(new).position(|(old, new)| old != new)
 }

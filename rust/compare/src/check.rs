@@ -1,14 +1,16 @@
 //! One call on both sides, and its comparison.
 
 use crate::arena::Arena;
+use crate::chains::{lamps, slot, SLOT};
 use crate::library::LIBRARY;
 use crate::random::Random;
 use reference::case::{Call, Case};
 use reference::wire::REFERENCE;
 use std::fmt::Write;
+use std::ops::Range;
 
 /// The functions in the order in which they are counted.
-pub const FUNCTIONS: [&str; 7] = [
+pub const FUNCTIONS: [&str; 12] = [
     "osp_checksum",
     "osp_read",
     "osp_build",
@@ -16,7 +18,15 @@ pub const FUNCTIONS: [&str; 7] = [
     "osp_dissect_answer",
     "osp_build_command",
     "osp_build_pwm",
+    "osp_record_len",
+    "osp_make",
+    "osp_deliver",
+    "osp_sense",
+    "osp_lamp",
 ];
+
+/// The most slots of a record that a report shows.
+const SHOWN: usize = 9;
 
 /// The place of a call's function among the counted ones.
 fn function(call: &Call) -> usize {
@@ -28,6 +38,11 @@ fn function(call: &Call) -> usize {
         Call::DissectAnswer => 4,
         Call::BuildCommand { .. } => 5,
         Call::BuildPwm { .. } => 6,
+        Call::RecordLen { .. } => 7,
+        Call::Make { .. } => 8,
+        Call::Deliver => 9,
+        Call::Sense { .. } => 10,
+        Call::Lamp { .. } => 11,
     }
 }
 
@@ -54,27 +69,35 @@ impl Checker {
         }
     }
 
-    /// Compares one call: the number, the count and every byte of the memory.
-    /// Gives what was agreed on, or the text of the difference.
+    /// Compares one call that has no record.
     pub fn compare(&mut self, case: &Case) -> Result<Agreed, String> {
-        let before = Arena::new(case, &mut self.guards);
+        self.compare_on(&mut [], case)
+    }
+
+    /// Compares one call on a record, which is left as both sides left it: the
+    /// number, the count and every byte of the memory. Gives what was agreed
+    /// on, or the text of the difference.
+    pub fn compare_on(&mut self, record: &mut [u8], case: &Case) -> Result<Agreed, String> {
+        let before = Arena::new(case, record, &mut self.guards);
         let (mut ours, mut theirs) = (before.clone(), before.clone());
         let wanted = ours.run(case, &REFERENCE);
         let given = theirs.run(case, &LIBRARY);
         self.counts[function(&case.call)] += 1;
-        let fault = if given != wanted {
-            Some("result differs".to_string())
+        let (fault, at) = if given != wanted {
+            ("result differs".to_string(), None)
+        } else if let Some(at) =
+            before.change(&theirs, touched(case, given, record), written(case, given))
+        {
+            (format!("{} was changed", before.place(at)), Some(at))
+        } else if let Some(at) = ours.change(&theirs, 0..0, 0) {
+            (format!("{} differs", before.place(at)), Some(at))
         } else {
-            let changed = before.change(&theirs, written(case, given));
-            let unlike = || ours.change(&theirs, 0);
-            changed
-                .map(|place| format!("{place} was changed"))
-                .or_else(|| unlike().map(|place| format!("{place} differs")))
+            record.copy_from_slice(theirs.record());
+            return Ok(agreed(case, given, &theirs));
         };
-        match fault {
-            Some(fault) => Err(describe(case, &fault, (given, &theirs), (wanted, &ours))),
-            None => Ok(agreed(case, given, &theirs)),
-        }
+        let head = describe(case, &fault, (given, &theirs), (wanted, &ours));
+        let shown = shown(record, at.and_then(|at| before.record_byte(at)));
+        Err(head + &describe_records(&shown, &before, &theirs, &ours))
     }
 
     /// Compares a call and demands that it succeeds; gives the bytes written.
@@ -106,6 +129,11 @@ impl Checker {
         self.counts.iter().sum()
     }
 
+    /// The deliveries among them.
+    pub fn deliveries(&self) -> u64 {
+        self.counts[function(&Call::Deliver)]
+    }
+
     /// The calls compared for each function.
     pub fn counts(&self) -> impl Iterator<Item = (&'static str, u64)> + '_ {
         FUNCTIONS.into_iter().zip(self.counts)
@@ -120,10 +148,22 @@ impl Checker {
 /// How many bytes of the room a call may have written.
 fn written(case: &Case, result: u32) -> usize {
     let (number, count) = (result % 256, result / 256);
-    if number == 0 && case.call != Call::Checksum {
+    if number == 0 && !case.call.is_plain() {
         count as usize
     } else {
         0
+    }
+}
+
+/// Which bytes of the record a call may have changed.
+fn touched(case: &Case, result: u32, record: &[u8]) -> Range<usize> {
+    let status = |place| slot(place) + 2;
+    match (case.call, result % 256) {
+        (Call::Make { count, .. }, 0) => 0..slot(count as usize),
+        (Call::Deliver, 0) => slot(0)..slot(lamps(record)),
+        (Call::Deliver, 5) => status(0)..status(0) + 1,
+        (Call::Sense { place, .. }, 0) => status(place as usize)..status(place as usize) + 2,
+        _ => 0..0,
     }
 }
 
@@ -150,8 +190,50 @@ fn describe(case: &Case, fault: &str, library: (u32, &Arena), reference: (u32, &
     text
 }
 
+/// The parts of a record that a report shows: the header, and the first slots
+/// or the one with the difference.
+fn shown(record: &[u8], at: Option<usize>) -> Vec<Range<usize>> {
+    let slots = record.len().saturating_sub(slot(0)).div_ceil(SLOT);
+    let place = at.unwrap_or(0).saturating_sub(slot(0)) / SLOT;
+    let places = if slots > SHOWN && place >= SHOWN {
+        place..place + 1
+    } else {
+        0..slots.min(SHOWN)
+    };
+    let parts = places.map(|place| slot(place)..slot(place + 1));
+    std::iter::once(0..slot(0))
+        .chain(parts)
+        .map(|part| part.start.min(record.len())..part.end.min(record.len()))
+        .filter(|part| !part.is_empty())
+        .collect()
+}
+
+/// Parts of the record before the call, and behind it on both sides.
+fn describe_records(
+    parts: &[Range<usize>],
+    before: &Arena,
+    library: &Arena,
+    reference: &Arena,
+) -> String {
+    let mut text = String::new();
+    if !parts.is_empty() {
+        let _ = writeln!(text, "  memory of {} bytes", before.record().len());
+    }
+    for part in parts {
+        for (name, arena) in [
+            ("before", before),
+            ("library", library),
+            ("reference", reference),
+        ] {
+            let bytes = hex(&arena.record()[part.clone()]);
+            let _ = writeln!(text, "  record from {:5} {name:9} {bytes}", part.start);
+        }
+    }
+    text
+}
+
 /// The function of a case and all that is given to it.
-fn input(case: &Case) -> String {
+pub fn input(case: &Case) -> String {
     let name = FUNCTIONS[function(&case.call)];
     let numbers = match case.call {
         Call::Build { address, command } => format!(" address {address} command {command}"),
@@ -166,6 +248,18 @@ fn input(case: &Case) -> String {
             modes,
             duties,
         } => format!(" cast {cast} value {value} modes {modes} duties {duties:?}"),
+        Call::RecordLen { count } => format!(" count {count}"),
+        Call::Make {
+            count,
+            setup,
+            thresholds,
+        } => format!(" count {count} setup {setup} thresholds {thresholds:?}"),
+        Call::Sense {
+            place,
+            temperature,
+            faults,
+        } => format!(" place {place} temperature {temperature} faults {faults}"),
+        Call::Lamp { place } => format!(" place {place}"),
         _ => String::new(),
     };
     let (size, room, bytes) = (case.bytes.len(), case.room, hex(&case.bytes));
@@ -173,7 +267,7 @@ fn input(case: &Case) -> String {
 }
 
 /// Bytes in hex, with spaces between.
-fn hex(bytes: &[u8]) -> String {
+pub fn hex(bytes: &[u8]) -> String {
     let pairs: Vec<String> = bytes.iter().map(|byte| format!("{byte:02X}")).collect();
     pairs.join(" ")
 }

@@ -5,11 +5,18 @@
 //! - [`check`]: one call on both sides, and its comparison.
 //! - [`material`]: good telegrams and damage to them.
 //! - [`suites`]: the inputs that are compared.
+//! - [`chains`]: chains and what is given to them.
+//! - [`chain_suites`]: the calls on chains that are compared.
+//! - [`lists`]: demand 3 of document 01, tried on the library alone.
 //! - [`random`]: the seeded source of them.
 
 pub mod arena;
+pub mod chain_suites;
+pub mod chains;
 pub mod check;
+#[cfg_attr(feature = "self-test", path = "stand_in.rs")]
 pub mod library;
+pub mod lists;
 pub mod material;
 pub mod random;
 pub mod suites;

@@ -35,6 +35,38 @@ mod raw {
             out: *mut u8,
             room: usize,
         ) -> u32;
+        pub fn osp_record_len(count: u32) -> u32;
+        pub fn osp_make(
+            record: *mut u8,
+            len: usize,
+            count: u32,
+            setup: u8,
+            t0: u8,
+            t1: u8,
+            t2: u8,
+        ) -> u32;
+        pub fn osp_deliver(
+            record: *mut u8,
+            len: usize,
+            s: *const u8,
+            n: usize,
+            out: *mut u8,
+            room: usize,
+        ) -> u32;
+        pub fn osp_sense(
+            record: *mut u8,
+            len: usize,
+            place: u32,
+            temperature: u8,
+            faults: u32,
+        ) -> u32;
+        pub fn osp_lamp(
+            record: *const u8,
+            len: usize,
+            place: u32,
+            out: *mut u8,
+            room: usize,
+        ) -> u32;
     }
 }
 
@@ -48,10 +80,16 @@ pub static LIBRARY: Side = Side {
     dissect_answer,
     build_command,
     build_pwm,
+    record_len,
+    make,
+    deliver,
+    sense,
+    lamp,
 };
 
-// Safety of every call below: a slice is valid memory of its length, the room
-// is lent for writing, and the library keeps no pointer after it returns.
+// Safety of every call below: a slice is valid memory of its length, room and
+// record are lent for writing, and the library keeps no pointer after it
+// returns.
 
 #[inline(never)]
 fn checksum(bytes: &[u8]) -> u8 {
@@ -98,4 +136,34 @@ fn build_pwm(
 ) -> u32 {
     let (out, length) = (room.as_mut_ptr(), room.len());
     unsafe { raw::osp_build_pwm(cast, value, modes, red, green, blue, out, length) }
+}
+
+#[inline(never)]
+fn record_len(count: u32) -> u32 {
+    unsafe { raw::osp_record_len(count) }
+}
+
+#[inline(never)]
+fn make(record: &mut [u8], count: u32, setup: u8, t0: u8, t1: u8, t2: u8) -> u32 {
+    let (chain, length) = (record.as_mut_ptr(), record.len());
+    unsafe { raw::osp_make(chain, length, count, setup, t0, t1, t2) }
+}
+
+#[inline(never)]
+fn deliver(record: &mut [u8], bytes: &[u8], room: &mut [u8]) -> u32 {
+    let (chain, length) = (record.as_mut_ptr(), record.len());
+    let (input, size) = (bytes.as_ptr(), bytes.len());
+    unsafe { raw::osp_deliver(chain, length, input, size, room.as_mut_ptr(), room.len()) }
+}
+
+#[inline(never)]
+fn sense(record: &mut [u8], place: u32, temperature: u8, faults: u32) -> u32 {
+    let (chain, length) = (record.as_mut_ptr(), record.len());
+    unsafe { raw::osp_sense(chain, length, place, temperature, faults) }
+}
+
+#[inline(never)]
+fn lamp(record: &[u8], place: u32, room: &mut [u8]) -> u32 {
+    let (chain, length) = (record.as_ptr(), record.len());
+    unsafe { raw::osp_lamp(chain, length, place, room.as_mut_ptr(), room.len()) }
 }

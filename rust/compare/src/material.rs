@@ -44,11 +44,15 @@ const fn known(number: u32, payload: usize, answer: Option<usize>) -> Known {
 }
 
 impl Known {
+    /// Whether the command numbers the lamps.
+    pub fn is_init(&self) -> bool {
+        matches!(self.number, 2 | 3)
+    }
+
     /// The casts that the command has, and a value for each.
     pub fn casts(&self, random: &mut Random) -> Vec<(u32, u32)> {
         let mut casts = vec![(1, lamp(random))];
-        let is_init = matches!(self.number, 2 | 3);
-        if is_init || self.answer.is_none() {
+        if self.is_init() || self.answer.is_none() {
             casts.push((0, 0));
         }
         if self.answer.is_none() {

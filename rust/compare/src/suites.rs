@@ -6,7 +6,7 @@ use crate::random::Random;
 use reference::case::Call;
 
 /// Nothing, or the text of the first difference.
-type Outcome = Result<(), String>;
+pub type Outcome = Result<(), String>;
 
 /// A set of inputs.
 pub type Suite = fn(&mut Checker, &mut Random) -> Outcome;

@@ -16,14 +16,21 @@ pub enum Refusal {
     Checksum = 5,
     /// The command is unknown, or is answered by nobody.
     Unknown = 6,
-    /// The command does not go to such a destination.
+    /// The command does not go to such a destination, or is an init at 000
+    /// while a lamp has no address.
     Cast = 7,
     /// The payload has the wrong size for the command.
     PayloadSize = 8,
     /// The room is shorter than what would be written.
     Room = 9,
-    /// A builder's field or payload length is out of range.
+    /// A builder's field, payload length or fault number is out of range.
     Range = 10,
+    /// The lamp count is out of range, or memory holds no valid chain.
+    Chain = 11,
+    /// An init would number lamps past 3EF.
+    PastEnd = 12,
+    /// The chain has no lamp at that place.
+    Place = 13,
 }
 
 impl Refusal {

@@ -1,8 +1,9 @@
-//! The C interface on slices. Each function but the checksum gives back the
-//! paper's number plus 256 times the count of bytes written to the front of the
-//! room.
+//! The C interface on slices. Each function but the checksum and the length of
+//! a record gives back the paper's number plus 256 times the count of bytes
+//! written to the front of the room.
 
 use crate::answer::Reply;
+use crate::chain::{self, Defaults, Place};
 use crate::command::{Cast, Command, Group, Lamp, Name, Order, Pwm};
 use crate::telegram::{self, Telegram};
 use crate::Refusal;
@@ -17,6 +18,11 @@ pub struct Side {
     pub dissect_answer: fn(&[u8], &mut [u8]) -> u32,
     pub build_command: fn(u32, u32, u32, &[u8], &mut [u8]) -> u32,
     pub build_pwm: fn(u32, u32, u32, u32, u32, u32, &mut [u8]) -> u32,
+    pub record_len: fn(u32) -> u32,
+    pub make: fn(&mut [u8], u32, u8, u8, u8, u8) -> u32,
+    pub deliver: fn(&mut [u8], &[u8], &mut [u8]) -> u32,
+    pub sense: fn(&mut [u8], u32, u8, u32) -> u32,
+    pub lamp: fn(&[u8], u32, &mut [u8]) -> u32,
 }
 
 /// The implementation in this package.
@@ -29,6 +35,11 @@ pub static REFERENCE: Side = Side {
     dissect_answer,
     build_command,
     build_pwm,
+    record_len,
+    make,
+    deliver,
+    sense,
+    lamp,
 };
 
 /// The checksum of all the bytes.
@@ -79,6 +90,38 @@ pub fn build_pwm(
     room: &mut [u8],
 ) -> u32 {
     packed(build_pwm_into(cast, value, modes, [red, green, blue], room))
+}
+
+/// The length of the record of so many lamps, or 0.
+#[inline(never)]
+pub fn record_len(count: u32) -> u32 {
+    chain::length(count as usize).map_or(0, |length| length as u32)
+}
+
+/// Makes a chain: 11, then 9.
+#[inline(never)]
+pub fn make(record: &mut [u8], count: u32, setup: u8, t0: u8, t1: u8, t2: u8) -> u32 {
+    let thresholds = [t0, t1, t2];
+    let defaults = Defaults { setup, thresholds };
+    packed(chain::make(record, count as usize, defaults).map(|()| 0))
+}
+
+/// Delivers a telegram: 9, 11, 1 to 8, then 12.
+#[inline(never)]
+pub fn deliver(record: &mut [u8], bytes: &[u8], room: &mut [u8]) -> u32 {
+    packed(chain::deliver(record, bytes, room))
+}
+
+/// Reports from the sensors of a lamp: 11, 13, then 10.
+#[inline(never)]
+pub fn sense(record: &mut [u8], place: u32, temperature: u8, faults: u32) -> u32 {
+    packed(chain::sense(record, Place(place), temperature, faults).map(|()| 0))
+}
+
+/// Reads out a lamp: 11, 13, then 9.
+#[inline(never)]
+pub fn lamp(record: &[u8], place: u32, room: &mut [u8]) -> u32 {
+    packed(chain::read_out(record, Place(place), room))
 }
 
 /// Writes address, command, payload size and payload.

@@ -1,18 +1,18 @@
--- `cases::run_lines` ends: each turn takes a line and the byte behind it.
+-- `cases::run_lines` meets its contract and ends: each turn takes a line and the byte behind it.
 -- Assumes nothing.
 use mathlib.Core.Path.{_≡_, refl}
 use Prim.Native.Nat.{_-_}
 use native.Mathlib.Omega.{arith}
-use borrow.Author.Needs.{needs}
 use lib.ListN.{length}
+use borrow.Author.Needs.{needs}
 use Rattle.cases.proofs.run_lines.Statement.{statement}
 use Rattle.cases.proofs.run_lines.Tie as tie
 
 abbrev Inv-loop : tie.InvT-loop
-Inv-loop text n at₀ at = n ≡ length text
+Inv-loop text memory₀ n lent₀ at₀ memory lent at = (n ≡ length text) × (length memory ≡ length memory₀)
 
 abbrev μ-loop : tie.MeasureT-loop
-μ-loop text n at₀ at = n - at
+μ-loop text memory₀ n lent₀ at₀ memory lent at = n - at
 
 pub run-lines-spec : {M : Type 1} → statement M
 run-lines-spec =
@@ -20,7 +20,7 @@ run-lines-spec =
     (tie.spec
     Inv-loop
     μ-loop
-    (λ c. refl)
+    (λ c. (refl, refl))
     (λ c κs. search needs)
     (λ c. omega arith)
     (λ c. omega arith)
@@ -28,5 +28,6 @@ run-lines-spec =
     (λ c κs. tt)
     (λ c. omega arith)
     (λ c. omega arith)
-    (λ c. omega arith)
+    (λ c. search needs)
+    (λ c. search needs)
     (λ c. search needs))

@@ -1,8 +1,11 @@
 //! Times the static library and the second implementation on the same inputs,
 //! in turns: `bench` prints a table, `bench once NAME SIDE` makes a fixed
-//! number of calls of one workload on one side.
+//! number of calls of one workload on one side. The workloads `last-...` are
+//! deliveries to the last lamp of a chain, `all-...` to everyone; their names
+//! end with the number of lamps.
 
 use reference::wire::{Side, REFERENCE};
+use sides::chains::slot;
 use sides::library::LIBRARY;
 use sides::material::{destination, fitting, KNOWN, SETPWM};
 use sides::random::Random;
@@ -19,6 +22,12 @@ const ONCE: usize = 10;
 const WORDS: [u8; 6] = [0x12, 0x34, 0x80, 0x00, 0xFF, 0xFF];
 const MODES: u32 = 3;
 const DUTIES: [u32; 3] = [0x1234, 0, 0x7FFF];
+/// The most lamps of a chain.
+const MOST: usize = 1007;
+/// Numbers of the commands that are delivered.
+const INITBIDIR: u32 = 0x02;
+const GOACTIVE: u32 = 0x05;
+const READSTATUS: u32 = 0x40;
 
 /// What is called.
 enum Job {
@@ -28,6 +37,11 @@ enum Job {
     Build,
     BuildCommand,
     BuildPwm,
+    /// A telegram to a chain, whose record is lent anew at every turn.
+    Deliver {
+        record: Vec<u8>,
+        bytes: Vec<u8>,
+    },
 }
 
 /// A named job and how often it is repeated in one turn.
@@ -71,6 +85,13 @@ impl Workload {
                 let (lamp, modes, [red, green, blue]) = black_box((5, MODES, DUTIES));
                 (side.build_pwm)(1, lamp, modes, red, green, blue, black_box(room))
             }),
+            Job::Deliver { record, bytes } => {
+                let mut record = record.clone();
+                let record = &mut record[..];
+                repeat(times, || {
+                    (side.deliver)(black_box(record), black_box(bytes), black_box(room))
+                });
+            }
         }
     }
 
@@ -102,8 +123,43 @@ fn mixed(random: &mut Random) -> Vec<Vec<u8>> {
     set
 }
 
-/// All the workloads.
-fn workloads() -> [Workload; 8] {
+/// A chain of so many lamps, numbered from 1; the same bytes for both sides.
+fn chain(count: usize) -> Vec<u8> {
+    let mut record = vec![0; slot(count)];
+    let side = &REFERENCE;
+    let made = (side.make)(&mut record, count as u32, 0x13, 0x03, 0xE6, 0xF0);
+    let init = fitting(1, INITBIDIR, &[]);
+    let numbered = (side.deliver)(&mut record, &init, &mut [0; 12]);
+    assert_eq!([made % 256, numbered % 256], [0, 0], "no chain");
+    record
+}
+
+/// The deliveries: to the last lamp, which is the farthest from the host, to
+/// everyone, and an init.
+fn deliveries() -> [Workload; 9] {
+    let of = |name, repeats, count, address, command, payload: &[u8]| Workload {
+        name,
+        job: Job::Deliver {
+            record: chain(count),
+            bytes: fitting(address, command, payload),
+        },
+        repeats,
+    };
+    [
+        of("last-setpwm-9", 5_000, 9, 9, SETPWM, &WORDS),
+        of("last-setpwm-300", 500, 300, 300, SETPWM, &WORDS),
+        of("last-setpwm-1007", 200, MOST, 1007, SETPWM, &WORDS),
+        of("last-readstatus-9", 5_000, 9, 9, READSTATUS, &[]),
+        of("last-readstatus-300", 500, 300, 300, READSTATUS, &[]),
+        of("last-readstatus-1007", 200, MOST, 1007, READSTATUS, &[]),
+        of("all-goactive-1007", 200, MOST, 0, GOACTIVE, &[]),
+        of("all-setpwm-1007", 200, MOST, 0, SETPWM, &WORDS),
+        of("init-1007", 200, MOST, 1, INITBIDIR, &[]),
+    ]
+}
+
+/// The calls that need no chain.
+fn plain_calls() -> [Workload; 8] {
     let mut random = Random::new(1);
     let setpwm = fitting(5, SETPWM, &WORDS);
     let longest = fitting(1, SETPWM, &random.bytes(8));
@@ -118,6 +174,11 @@ fn workloads() -> [Workload; 8] {
         of("build-command-setpwm", 20_000, Job::BuildCommand),
         of("build-pwm", 20_000, Job::BuildPwm),
     ]
+}
+
+/// All the workloads.
+fn workloads() -> impl Iterator<Item = Workload> {
+    plain_calls().into_iter().chain(deliveries())
 }
 
 /// The middle one of some measures.
@@ -149,7 +210,6 @@ fn once(name: &str, side: &str) -> Result<(), String> {
         .find(|known| known.name == side)
         .ok_or(format!("no such side: {side}"))?;
     let workload = workloads()
-        .into_iter()
         .find(|workload| workload.name == name)
         .ok_or(format!("no such workload: {name}"))?;
     for _ in 0..ONCE {

@@ -2,8 +2,11 @@
 //! `compare CASES [SEED [COUNT]]`, where CASES is the file of cases and COUNT
 //! the least number of calls to compare.
 
-use reference::case::Case;
+use reference::line::{Line, Memory};
+use sides::chain_suites::CHAIN_SUITES;
 use sides::check::Checker;
+use sides::library::LIBRARY;
+use sides::lists::try_lists;
 use sides::random::Random;
 use sides::suites::{anything, SUITES};
 use std::process::ExitCode;
@@ -15,9 +18,11 @@ const COUNT: u64 = 2_000_000;
 /// Compares every case of the file.
 fn compare_file(check: &mut Checker, path: &str) -> Result<(), String> {
     let text = fs::read_to_string(path).map_err(|error| format!("{path}: {error}"))?;
-    for line in text.lines() {
-        if let Some(case) = Case::parse(line)? {
-            check.compare(&case)?;
+    let mut memory = Memory::default();
+    for text in text.lines() {
+        let line = Line::parse(text)?;
+        if let Some(case) = line.as_ref().and_then(|line| line.prepare(&mut memory)) {
+            check.compare_on(memory.lent(), case)?;
         }
     }
     Ok(())
@@ -30,16 +35,11 @@ fn number(place: usize, default: u64) -> Result<u64, String> {
     })
 }
 
-/// Compares everything and prints the counts.
-fn run() -> Result<(), String> {
-    let path = env::args()
-        .nth(1)
-        .ok_or("usage: compare CASES [SEED [COUNT]]")?;
-    let (seed, count) = (number(2, SEED)?, number(3, COUNT)?);
-    println!("seed {seed}");
+/// Compares the functions on all inputs.
+fn compare_all(path: &str, seed: u64, count: u64) -> Result<(), String> {
     let mut check = Checker::new(seed);
     let mut random = Random::new(seed);
-    compare_file(&mut check, &path)?;
+    compare_file(&mut check, path)?;
     println!("{} cases of the file", check.total());
     for suite in SUITES {
         suite(&mut check, &mut random)?;
@@ -47,15 +47,40 @@ fn run() -> Result<(), String> {
     while check.total() < count {
         anything(&mut check, &mut random)?;
     }
+    for suite in CHAIN_SUITES {
+        suite(&mut check, &mut random)?;
+    }
     for (name, calls) in check.counts() {
         println!("{name:18} {calls:>9}");
     }
     println!("{} round trips came back", check.round_trips());
     println!(
-        "compared {} cases, seed {seed}: no difference",
-        check.total()
+        "compared {} calls, {} of them deliveries, seed {seed}: no difference",
+        check.total(),
+        check.deliveries()
     );
     Ok(())
+}
+
+/// Tries demand 3 on the library.
+fn demand_3(seed: u64) -> Result<(), String> {
+    let tally = try_lists(&mut Random::new(seed.rotate_left(32)))?;
+    println!(
+        "demand 3: {} lists, {} lone-lamp lists, {} trades, {} telegrams of nobody in {} deliveries, seed {seed}: holds",
+        tally.lists, tally.lone, tally.trades, tally.nobodys, tally.deliveries
+    );
+    Ok(())
+}
+
+/// Compares everything and prints the counts.
+fn run() -> Result<(), String> {
+    let path = env::args()
+        .nth(1)
+        .ok_or("usage: compare CASES [SEED [COUNT]]")?;
+    let (seed, count) = (number(2, SEED)?, number(3, COUNT)?);
+    println!("{} against reference, seed {seed}", LIBRARY.name);
+    compare_all(&path, seed, count)?;
+    demand_3(seed)
 }
 
 fn main() -> ExitCode {

@@ -1,7 +1,7 @@
 //! Reads a file of cases on standard input and prints each line, and behind
 //! each case what the second implementation gives for it.
 
-use reference::case::Case;
+use reference::line::{Line, Memory};
 use reference::wire::REFERENCE;
 use std::io::{self, Read};
 use std::process::ExitCode;
@@ -9,11 +9,12 @@ use std::process::ExitCode;
 /// The whole output for a file of cases.
 fn results(text: &str) -> Result<String, String> {
     let mut output = String::new();
-    for line in text.lines() {
-        output += line;
+    let mut memory = Memory::default();
+    for text in text.lines() {
+        output += text;
         output.push('\n');
-        if let Some(case) = Case::parse(line)? {
-            output += &case.report(&REFERENCE);
+        if let Some(line) = Line::parse(text)? {
+            output += &line.report(&REFERENCE, &mut memory);
         }
     }
     Ok(output)

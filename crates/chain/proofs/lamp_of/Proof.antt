@@ -1,0 +1,28 @@
+-- `chain::lamp_of` meets its contract.
+-- Assumes nothing.
+use Rattle.chain.specs.Record.{lampOf}
+use borrow.Author.Needs.{needs}
+use Rattle.chain.proofs.lamp_of.Statement.{statement}
+use Rattle.chain.proofs.lamp_of.Tie as tie
+
+pub lamp-of-spec : {M : Type 1} → statement M
+unfolding lampOf
+lamp-of-spec =
+    tie.close
+    (tie.spec
+    (λ c. search needs)
+    (λ c κs. search needs)
+    (λ c. search needs)
+    (λ c. search needs)
+    (λ c κs. search needs)
+    (λ c κs. search needs)
+    (λ c κs. search needs)
+    (λ c. search needs)
+    (λ c. search needs)
+    (λ c. search needs)
+    (λ c. search needs)
+    (λ c. search needs)
+    (λ c. search needs)
+    (λ c. search needs)
+    (λ c κs. search needs)
+    (λ c. rw (c .before .before .before .before .before .before .before .before .before .before .before .before .before .words-in .ensures, c .before .before .before .before .before .before .before .before .before .before .word .ensures, c .before .before .before .before .before .before .before .before .before .state-in .ensures, c .before .before .before .before .before .before .before .before .flags-in .ensures, c .word2 .ensures)))

@@ -1,0 +1,16 @@
+-- `chain::mark_one` meets its contract.
+-- Assumes nothing.
+use mathlib.Core.Path.{_∙_}
+use borrow.Author.Needs.{needs}
+use Rattle.chain.proofs.mark_one.Statement.{statement}
+use Rattle.chain.proofs.mark_one.Tie as tie
+
+pub mark-one-spec : {M : Type 1} → statement M
+mark-one-spec =
+    tie.close
+    (tie.spec
+    (λ c κs. search needs)
+    (λ c κs. search needs)
+    (λ c κs. search needs)
+    (λ c. search needs)
+    (λ c. c .before .before .put-status .ensures ∙ rw (c .before .before .before .marked-flags .ensures, c .before .before .before .before .before .before .load-status .ensures)))

@@ -1,0 +1,4 @@
+pub mod Record
+pub mod Places
+pub mod Memory
+pub mod Calls

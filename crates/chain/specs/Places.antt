@@ -1,0 +1,68 @@
+-- The lamps of a record, place by place, as the code reads and writes them.
+-- Assumes nothing.
+use Prim.Native.Nat.{ℕ, zero, suc, _+_}
+use mathlib.Core.Bool.{Bool, true, cond, not, _&&_, _||_}
+use mathlib.Core.List.{List, [], _∷_, _++_}
+use lib.Dec.{eqb, ltb}
+use lib.ListN.{take, drop}
+use Rattle.rules.specs.declared.State.{State}
+use Rattle.rules.specs.declared.Flags.{Flags}
+use Rattle.rules.specs.declared.Defaults.{Defaults}
+use Rattle.rules.specs.declared.Lamp.{Lamp}
+use Rattle.rules.specs.Lamp.{lamp, member, uninitialized}
+use Rattle.rules.specs.Chain.{Walked, withLamps}
+use Rattle.lamp.specs.Reactions.{altered}
+use Rattle.chain.specs.Record.{slotAt, slotSize, lampOf, slotOf, decode, hold}
+use Rattle.chain.specs.declared.Status.{Status}
+use Rattle.chain.specs.declared.Reach.{Reach}
+use Rattle.chain.specs.declared.Reach.the-variants.{Everyone, Members}
+use Rattle.chain.specs.declared.Order.{Order}
+use Rattle.chain.specs.declared.Found.{Found}
+use Rattle.chain.specs.declared.Found.the-variants.{At, Nobody}
+
+-- The lamp at place p of memory.
+unfoldable pub lampAt : List ℕ → ℕ → Lamp
+lampAt mem p = lampOf (drop (slotAt p) mem)
+
+-- The status of the lamp at place p of memory.
+abbrev pub statusAt : List ℕ → ℕ → Status
+statusAt mem p = record { state = lampAt mem p .state; direction = lampAt mem p .direction; flags = lampAt mem p .flags }
+
+-- A lamp with another state, direction and flags: another status byte.
+abbrev pub withStatus : State → Bool → Flags → Lamp → Lamp
+withStatus s loop f l = lamp (l .address) s loop f (l .temperature) (l .thresholds) (l .setup) (l .groups) (l .pwm)
+
+-- Memory with a lamp stored at place p.
+unfoldable pub withLamp : List ℕ → ℕ → Lamp → List ℕ
+withLamp mem p l = take (slotAt p) mem ++ (slotOf l ++ drop (slotAt p + slotSize) mem)
+
+-- Memory after n places from place p on, one after the other, were given what a rule makes of the place and its lamp.
+unfoldable pub sweep : (ℕ → Lamp → Lamp) → ℕ → ℕ → List ℕ → List ℕ
+sweep rule p zero mem = mem
+sweep rule p (suc n) mem = sweep rule (suc p) n (withLamp mem p (rule p (lampAt mem p)))
+
+-- The lamps that an order reaches: everyone, or the members of a group, which is below 16.
+abbrev pub reached : Reach → Lamp → Bool
+reached Everyone l = true
+reached (Members g) l = member g l
+
+abbrev pub reachFits : Reach → Bool
+reachFits Everyone = true
+reachFits (Members g) = ltb g 16
+
+-- A lamp heeds an order that reaches it, in UNINITIALIZED only one that is always obeyed.
+abbrev pub heeded : Order → Lamp → Bool
+heeded o l = reached (o .reach) l && (not (uninitialized (l .state)) || o .always)
+
+-- A lamp after an order.
+abbrev pub ordered : Defaults → Order → Lamp → Lamp
+ordered d o l = cond (heeded o l) (altered d (o .change) l) l
+
+-- The lookup: the place of the first lamp with an address, from place p on.
+unfoldable pub placeFrom : ℕ → ℕ → List Lamp → Found
+placeFrom p a [] = Nobody
+placeFrom p a (x ∷ xs) = cond (eqb (x .address .0) a) (At (record { 0 = p })) (placeFrom (suc p) a xs)
+
+-- Memory after a telegram walked along the lamps that it holds.
+unfoldable pub heldAfter : List ℕ → Walked → List ℕ
+heldAfter mem w = hold mem (withLamps (decode mem) (w .lamps))

@@ -1,0 +1,97 @@
+-- docs/RECORD.md: how a chain lies in lent memory. Document 01, "A lamp and the chain": which memory holds a valid chain.
+-- Assumes nothing.
+use Prim.Native.Nat.{ℕ, zero, suc, _+_, _*_, _/_, _%_}
+use mathlib.Core.Bool.{Bool, cond, not}
+use mathlib.Core.List.{List, [], _∷_, _++_}
+use lib.Dec.{eqb, ltb}
+use lib.ListN.{length, getD, drop}
+use Rattle.telegram.specs.Numbers.{Outcome, refuse, done}
+use Rattle.command.specs.Fields.{wordAt, wordBytes}
+use Rattle.rules.specs.declared.State.{State}
+use Rattle.rules.specs.declared.State.the-variants.{Uninitialized, Sleep, Active, DeepSleep}
+use Rattle.rules.specs.declared.Flags.{Flags}
+use Rattle.rules.specs.declared.Lamp.{Lamp}
+use Rattle.rules.specs.declared.Defaults.{Defaults}
+use Rattle.rules.specs.Lamp.{lamp, flags, statusOf}
+use Rattle.rules.specs.Chain.{Chain, countRight, addressesRight}
+
+-- The header has 6 bytes, a lamp's slot 16; the slot of place p begins behind the slots before it.
+abbrev pub headerSize : ℕ
+headerSize = 6
+
+abbrev pub slotSize : ℕ
+slotSize = 16
+
+abbrev pub slotAt : ℕ → ℕ
+slotAt p = headerSize + slotSize * p
+
+-- The record of n lamps ends where the slot of place n would begin.
+abbrev pub recordLength : ℕ → ℕ
+recordLength n = slotAt n
+
+-- The state in bits 7 and 6 of a status byte ..
+abbrev pub stateIn : ℕ → State
+stateIn b = cond (eqb (b / 64) 0) Uninitialized (cond (eqb (b / 64) 1) Sleep (cond (eqb (b / 64) 2) Active DeepSleep))
+
+-- .. COM in bit 4, and the flags OTPCRC in bit 5, CE 3, LOS 2, OT 1, UV 0.
+abbrev pub directionIn : ℕ → Bool
+directionIn b = eqb (b / 16 % 2) 1
+
+abbrev pub flagsIn : ℕ → Flags
+flagsIn b = flags (eqb (b / 32 % 2) 1) (eqb (b / 8 % 2) 1) (eqb (b / 4 % 2) 1) (eqb (b / 2 % 2) 1) (eqb (b % 2) 1)
+
+-- The lamp in a slot: address (2), status byte, temperature, thresholds (3), setup, group word (2), PWM (6).
+unfoldable pub lampOf : List ℕ → Lamp
+lampOf s =
+    lamp (record { 0 = wordAt s 0 }) (stateIn (getD s 2 0)) (directionIn (getD s 2 0)) (flagsIn (getD s 2 0)) (getD s 3 0)
+    (record { cycle = getD s 4 0; low = getD s 5 0; high = getD s 6 0 }) (getD s 7 0) (wordAt s 8)
+    (record { red = wordAt s 10; green = wordAt s 12; blue = wordAt s 14 })
+
+-- The slot of a lamp, the same bytes.
+unfoldable pub slotOf : Lamp → List ℕ
+slotOf l =
+    wordBytes (l .address .0) ++ (statusOf l ∷ l .temperature ∷ l .thresholds .cycle ∷ l .thresholds .low ∷ l .thresholds .high ∷ l .setup ∷ [])
+    ++ wordBytes (l .groups) ++ wordBytes (l .pwm .red) ++ wordBytes (l .pwm .green) ++ wordBytes (l .pwm .blue)
+
+-- The lamps of n slots, one behind the other, and the slots of lamps.
+unfoldable pub lampsOf : ℕ → List ℕ → List Lamp
+lampsOf zero s = []
+lampsOf (suc n) s = lampOf s ∷ lampsOf n (drop slotSize s)
+
+unfoldable pub slotsOf : List Lamp → List ℕ
+slotsOf [] = []
+slotsOf (x ∷ xs) = slotOf x ++ slotsOf xs
+
+-- The header: lamp count (2), default setup, default thresholds (3).
+unfoldable pub headerOf : ℕ → Defaults → List ℕ
+headerOf n d = wordBytes n ++ (d .setup ∷ d .thresholds .cycle ∷ d .thresholds .low ∷ d .thresholds .high ∷ [])
+
+-- The lamp count in memory ..
+unfoldable pub countOf : List ℕ → ℕ
+countOf mem = wordAt mem 0
+
+-- .. and the defaults.
+unfoldable pub defaultsOf : List ℕ → Defaults
+defaultsOf mem = record { setup = getD mem 2 0; thresholds = record { cycle = getD mem 3 0; low = getD mem 4 0; high = getD mem 5 0 } }
+
+-- The first n lamps in memory.
+unfoldable pub lampsIn : ℕ → List ℕ → List Lamp
+lampsIn n mem = lampsOf n (drop headerSize mem)
+
+-- The chain that the bytes of memory stand for.
+unfoldable pub decode : List ℕ → Chain
+decode mem = record { defaults = defaultsOf mem; lamps = lampsIn (countOf mem) mem }
+
+-- Memory that holds a chain: its record at the front, the bytes behind the record's end as they were.
+unfoldable pub hold : List ℕ → Chain → List ℕ
+hold mem c = headerOf (length (c .lamps)) (c .defaults) ++ slotsOf (c .lamps) ++ drop (recordLength (length (c .lamps))) mem
+
+-- The chain in memory. Memory which holds no valid chain (count or a field outside its range, or fewer bytes than its count needs)
+-- is refused with 11.
+unfoldable pub chainIn : List ℕ → Outcome Chain
+chainIn mem =
+    refuse (ltb (length mem) headerSize) 11
+    (refuse (not (countRight (countOf mem))) 11
+    (refuse (ltb (length mem) (recordLength (countOf mem))) 11
+    (refuse (not (addressesRight (decode mem .lamps))) 11
+    (done (decode mem)))))

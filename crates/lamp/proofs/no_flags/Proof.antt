@@ -1,0 +1,11 @@
+-- `lamp::no_flags` meets its contract.
+-- Assumes nothing.
+use mathlib.Core.Path.{refl}
+use Rattle.lamp.proofs.no_flags.Statement.{statement}
+use Rattle.lamp.proofs.no_flags.Tie as tie
+
+pub no-flags-spec : {M : Type 1} → statement M
+no-flags-spec =
+    tie.close
+    (tie.spec
+    (λ c. refl))

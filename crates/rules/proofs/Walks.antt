@@ -1,0 +1,173 @@
+-- The walk of a telegram along the lamps: what it keeps, and the walk of a telegram for one address.
+-- Assumes nothing.
+use Prim.Native.Nat.{ℕ, zero, suc, _+_, _≤_, _<_}
+use native.Mathlib.Omega.{arith}
+use native.Mathlib.Decide.{ℕ-discrete}
+use mathlib.Core.Path.{_≡_, refl, sym, ap, _∙_, subst}
+use mathlib.Core.Logic.{_≢_, _⊎_, inl, inr}
+use mathlib.Core.Bool.{Bool, true, false, cond}
+use mathlib.Core.List.{List, [], _∷_}
+use lib.Dec.{eqb}
+use lib.ListN.{length}
+use borrow.Author.Tests.{eq-eqb, ne-eqb}
+use Rattle.telegram.specs.Numbers.{done}
+use Rattle.telegram.specs.declared.Address.{Address}
+use Rattle.telegram.proofs.Outcomes.{never, done-one}
+use Rattle.command.specs.Commands.{Message}
+use Rattle.command.specs.declared.Cast.the-variants.{One}
+use Rattle.rules.specs.declared.Defaults.{Defaults}
+use Rattle.rules.specs.declared.Lamp.{Lamp}
+use Rattle.rules.specs.Lamp.{noAddress, changed, acted, answered, obeys}
+use Rattle.rules.specs.Chain.{Step, onward, ends, Walked, stepped, walk, answerFrom, reaching, lampIn}
+
+-- The lamp that a step leaves.
+abbrev pub lampOf : Step → Lamp
+lampOf (onward y) = y
+lampOf (ends y o) = y
+
+-- A step puts back one lamp.
+stepped-length : (s : Step) (xs : List Lamp) (w : Walked) → length (w .lamps) ≡ length xs
+    → length (stepped s xs w .lamps) ≡ suc (length xs)
+stepped-length (onward y) xs w e = ap suc e
+stepped-length (ends y o) xs w e = refl
+
+-- A walk keeps the count of lamps.
+pub walk-length : (visit : ℕ → Lamp → Step) (p : ℕ) (xs : List Lamp) → length (walk visit p xs .lamps) ≡ length xs
+walk-length visit p [] = refl
+walk-length visit p (x ∷ xs) = stepped-length (visit p x) xs (walk visit (suc p) xs) (walk-length visit (suc p) xs)
+
+-- Each lamp, from place p on, has P at its place.
+abbrev pub Each : (ℕ → Lamp → Type 0) → ℕ → List Lamp → Type 0
+Each P p [] = Unit {0}
+Each P p (x ∷ xs) = P p x × Each P (suc p) xs
+
+-- Behind a step, the lamps that it leaves are as they were or as the walk left them.
+stepped-each : (P : ℕ → Lamp → Type 0) (s : Step) (p : ℕ) (xs : List Lamp) (w : Walked) → P p (lampOf s) → Each P (suc p) xs
+    → Each P (suc p) (w .lamps) → Each P p (stepped s xs w .lamps)
+stepped-each P (onward y) p xs w h hs ih = (h, ih)
+stepped-each P (ends y o) p xs w h hs ih = (h, hs)
+
+-- What a visit keeps at each of n places, a walk keeps of each lamp.
+pub walk-each : (P : ℕ → Lamp → Type 0) (visit : ℕ → Lamp → Step) (n : ℕ)
+    → ((p : ℕ) (x : Lamp) → p < n → P p x → P p (lampOf (visit p x)))
+    → (p : ℕ) (xs : List Lamp) → p + length xs ≤ n → Each P p xs → Each P p (walk visit p xs .lamps)
+walk-each P visit n keeps p [] l h = tt
+walk-each P visit n keeps p (x ∷ xs) l h =
+    stepped-each P (visit p x) p xs (walk visit (suc p) xs) (keeps p x (omega arith) (h .0)) (h .1)
+    (walk-each P visit n keeps (suc p) xs (omega arith) (h .1))
+
+-- What holds of two lamps holds of the one that a test picks.
+pub either : {x y : Lamp} (P : Lamp → Type 0) (b : Bool) → P x → P y → P (cond b x y)
+either P true h k = h
+either P false h k = k
+
+-- A command leaves a lamp's address or takes it away: what holds of the address and of 3FF holds of the address after it.
+pub acted-address : (P : Address → Type 0) (d : Defaults) (m : Message) (l : Lamp) → P noAddress → P (l .address)
+    → P (acted d m l .address)
+unfolding acted changed
+acted-address P d m l z h =
+    let n = m .number in
+    let Q : Lamp → Type 0 = λ (x : Lamp). P (x .address) in
+    either Q (obeys n (l .state))
+    (either Q (eqb n 0x00) z
+    (either Q (eqb n 0x01) h
+    (either Q (eqb n 0x04) h
+    (either Q (eqb n 0x05) h
+    (either Q (eqb n 0x06) h
+    (either Q (eqb n 0x0D) h
+    (either Q (eqb n 0x40) h
+    (either Q (eqb n 0x42) h
+    (either Q (eqb n 0x4B) h
+    (either Q (eqb n 0x4D) h
+    (either Q (eqb n 0x4F) h
+    h)))))))))))
+    h
+
+-- The address c of a lamp to which init gave s: that one, or none since a RESET.
+abbrev pub Home : ℕ → Address → Type 0
+Home s c = (c .0 ≡ s) ⊎ (c .0 ≡ noAddress .0)
+
+-- The lamps from place p on of a chain numbered from a.
+abbrev pub Numbered : ℕ → ℕ → List Lamp → Type 0
+Numbered a p xs = Each (λ (q : ℕ) (x : Lamp). Home (a + q) (x .address)) p xs
+
+-- It is no other address that a telegram can be sent to.
+away : (s b : ℕ) (c : Address) → Home s c → b ≢ s → b ≢ noAddress .0 → c .0 ≢ b
+away s b c (inl h) other real e = other (sym e ∙ h)
+away s b c (inr h) other real e = real (sym e ∙ h)
+
+-- A walk that has passed a lamp by.
+abbrev pub past : Lamp → Walked → Walked
+past x w = record { lamps = x ∷ w .lamps; outcome = w .outcome }
+
+-- The walk of a command for the address b.
+module _ (d : Defaults) (m : Message) (b : ℕ) where
+  abbrev pub seeking : ℕ → Lamp → Step
+  seeking = reaching d m (One (record { 0 = b }))
+
+  -- It ends at a lamp with that address ..
+  pub hit : (p : ℕ) (x : Lamp) (xs : List Lamp) → x .address .0 ≡ b
+      → walk seeking p (x ∷ xs)
+      ≡ record { lamps = acted d m x ∷ xs; outcome = done (answerFrom b (m .number) (answered (m .number) x)) }
+  hit p x xs e = rw (eq-eqb (x .address .0) b e)
+
+  -- .. and passes by a lamp with another one.
+  pub miss : (p : ℕ) (x : Lamp) (xs : List Lamp) → x .address .0 ≢ b
+      → walk seeking p (x ∷ xs) ≡ past x (walk seeking (suc p) xs)
+  miss p x xs h = rw (ne-eqb (x .address .0) b h)
+
+  -- What holds of 3FF and of a lamp's address holds of its address after the visit.
+  pub sought-address : (P : Address → Type 0) (p : ℕ) (x : Lamp) → P noAddress → P (x .address)
+      → P (lampOf (seeking p x) .address)
+  sought-address P p x z h = go (eqb (x .address .0) b)
+    where
+      go : (t : Bool)
+          → P (lampOf (cond t (ends (acted d m x) (done (answerFrom b (m .number) (answered (m .number) x)))) (onward x)) .address)
+      go true = acted-address P d m x z h
+      go false = h
+
+  -- Lamps numbered from a stay so.
+  pub still-numbered : (a : ℕ) (xs : List Lamp) → Numbered a 0 xs → Numbered a 0 (walk seeking 0 xs .lamps)
+  still-numbered a xs =
+      walk-each (λ (q : ℕ) (x : Lamp). Home (a + q) (x .address)) seeking (length xs)
+      (λ q x l h. sought-address (Home (a + q)) q x (inr refl) h) 0 xs (omega arith)
+
+  -- Along lamps numbered from a, for an address that a telegram can be sent to.
+  module _ (a : ℕ) (real : b ≢ noAddress .0) where
+    -- No place has the address: nothing happens, and there is no answer.
+    pub nobody : (p : ℕ) (xs : List Lamp) → Numbered a p xs → ((q : ℕ) → q < length xs → b ≢ a + (p + q))
+        → walk seeking p xs ≡ record { lamps = xs; outcome = done [] }
+    nobody p [] h out = refl
+    nobody p (x ∷ xs) h out =
+        miss p x xs (away (a + p) b (x .address) (h .0) (λ e. out 0 (omega arith) (omega arith)) real)
+        ∙ ap (past x) (nobody (suc p) xs (h .1) (λ q l e. out (suc q) (omega arith) (omega arith)))
+
+    -- At another place the lamp stays.
+    pub at-other : (p q : ℕ) (xs : List Lamp) (x : Lamp) → Numbered a p xs → lampIn xs q ≡ done x → b ≢ a + (p + q)
+        → lampIn (walk seeking p xs .lamps) q ≡ done x
+    at-other p q [] x h e ne = absurd (never e)
+    at-other p zero (y ∷ ys) x h e ne = rw (miss p y ys (away (a + p) b (y .address) (h .0) (omega arith) real)) e
+    at-other p (suc q) (y ∷ ys) x h e ne = go (ℕ-discrete (y .address .0) b) (at-other (suc p) q ys x (h .1) e (omega arith))
+      where
+        go : Dec (y .address .0 ≡ b) → lampIn (walk seeking (suc p) ys .lamps) q ≡ done x
+            → lampIn (walk seeking p (y ∷ ys) .lamps) (suc q) ≡ done x
+        go (yes g) ih = rw (hit p y ys g) e
+        go (no g) ih = rw (miss p y ys g) ih
+
+    -- At the place that has the address the lamp becomes what it becomes alone, and the outcome is the one alone.
+    abbrev pub AsAlone : Lamp → ℕ → Walked → Type 0
+    AsAlone x q w =
+        (y : Lamp) × ((lampIn (w .lamps) q ≡ done y) × (walk seeking 0 (x ∷ []) ≡ record { lamps = y ∷ []; outcome = w .outcome }))
+
+    pub at-own : (p q : ℕ) (xs : List Lamp) (x : Lamp) → Numbered a p xs → lampIn xs q ≡ done x → b ≡ a + (p + q)
+        → AsAlone x q (walk seeking p xs)
+    at-own p q [] x h e eb = absurd (never e)
+    at-own p zero (y ∷ ys) x h e eb =
+        subst (λ (z : Lamp). AsAlone z 0 (walk seeking p (y ∷ ys))) (done-one e) (go (ℕ-discrete (y .address .0) b))
+      where
+        go : Dec (y .address .0 ≡ b) → AsAlone y 0 (walk seeking p (y ∷ ys))
+        go (yes g) = rw (hit p y ys g, hit 0 y [] g) (acted d m y, (refl, refl))
+        go (no g) = rw (miss p y ys g, miss 0 y [] g, nobody (suc p) ys (h .1) (λ q l u. omega arith)) (y, (refl, refl))
+    at-own p (suc q) (y ∷ ys) x h e eb =
+        rw (miss p y ys (away (a + p) b (y .address) (h .0) (omega arith) real))
+        (at-own (suc p) q ys x (h .1) e (omega arith))

@@ -1,0 +1,169 @@
+//! What a telegram does to the chain.
+
+use crate::chain::lamp::{self, Direction, Slot, State};
+use crate::chain::Chain;
+use crate::command::{heading, Cast, Lamp, Name};
+use crate::telegram::{exact, Telegram, LONGEST};
+use crate::Refusal;
+
+/// Delivers a telegram and gives the count of answer bytes written: 9, 11, 1
+/// to 8, then 7 for an init at 000, or 12. A refusal changes nothing, but 5
+/// sets CE on the lamp at place 0.
+pub fn deliver(memory: &mut [u8], bytes: &[u8], room: &mut [u8]) -> Result<usize, Refusal> {
+    if room.len() < LONGEST {
+        return Err(Refusal::Room);
+    }
+    let mut chain = Chain::open(memory)?;
+    let telegram = Telegram::parse(bytes).inspect_err(|&refusal| chain.overhear(refusal))?;
+    let (name, cast) = heading(&telegram)?;
+    match name {
+        Name::InitBidir => chain.init(name, cast, Direction::Bidirectional, room),
+        Name::InitLoop => chain.init(name, cast, Direction::Loop, room),
+        _ if name.is_answered() => chain.read(name, cast, room),
+        _ => chain.obey(name, cast, telegram.payload()).map(|()| 0),
+    }
+}
+
+/// Writes an answer.
+fn answer(address: u16, name: Name, bytes: &[u8], room: &mut [u8]) -> Result<usize, Refusal> {
+    Telegram::new(u32::from(address), u32::from(name.number()), bytes)?.write(room)
+}
+
+impl Chain<'_> {
+    /// Sets CE on the lamp nearest the host after a wrong checksum.
+    fn overhear(&mut self, refusal: Refusal) {
+        if refusal == Refusal::Checksum {
+            lamp::set_error(&mut self.slots[0]);
+        }
+    }
+
+    /// Does what a command says that nobody answers.
+    fn obey(&mut self, name: Name, cast: Cast, payload: &[u8]) -> Result<(), Refusal> {
+        match name {
+            Name::Reset => {
+                let fresh = lamp::fresh(self.defaults);
+                self.each(cast, |slot| lamp::reset(slot, fresh));
+            }
+            Name::ClrError => self.each(cast, lamp::clear_flags),
+            Name::GoSleep => self.each_initialized(cast, |slot| lamp::go(slot, State::Sleep)),
+            Name::GoActive => self.each_initialized(cast, |slot| lamp::go(slot, State::Active)),
+            Name::GoDeepSleep => {
+                self.each_initialized(cast, |slot| lamp::go(slot, State::DeepSleep));
+            }
+            Name::SetMult => {
+                let groups = exact(payload)?;
+                self.each_initialized(cast, |slot| lamp::set_groups(slot, groups));
+            }
+            Name::SetOtTh => {
+                let thresholds = exact(payload)?;
+                self.each_initialized(cast, |slot| lamp::set_thresholds(slot, thresholds));
+            }
+            Name::SetSetup => {
+                let [setup] = exact(payload)?;
+                self.each_initialized(cast, |slot| lamp::set_setup(slot, setup));
+            }
+            Name::SetPwm => {
+                let pwm = exact(payload)?;
+                self.each_initialized(cast, |slot| lamp::set_pwm(slot, pwm));
+            }
+            // The others are answered: `read` and `init` do them.
+            _ => {}
+        }
+        Ok(())
+    }
+
+    /// The first lamp with an address; the telegram ends there.
+    fn first(&mut self, wanted: Lamp) -> Option<&mut Slot> {
+        self.slots
+            .iter_mut()
+            .find(|slot| lamp::has_address(slot, wanted))
+    }
+
+    /// Lets each lamp act to which a cast goes. Every action gets loops of its
+    /// own, so that none decides anew at each lamp what to do.
+    #[inline]
+    fn each(&mut self, cast: Cast, act: impl Fn(&mut Slot)) {
+        match cast {
+            Cast::One(lamp) => {
+                if let Some(slot) = self.first(lamp) {
+                    act(slot);
+                }
+            }
+            Cast::Everyone => self.slots.iter_mut().for_each(act),
+            Cast::Members(group) => {
+                let members = self.slots.iter_mut();
+                members
+                    .filter(|slot| lamp::is_member(slot, group))
+                    .for_each(act);
+            }
+        }
+    }
+
+    /// The same, passing by the lamps in UNINITIALIZED.
+    #[inline]
+    fn each_initialized(&mut self, cast: Cast, act: impl Fn(&mut Slot)) {
+        self.each(cast, |slot| {
+            if lamp::is_initialized(slot) {
+                act(slot);
+            }
+        });
+    }
+
+    /// A read command, which goes to one lamp. The two that show the flags
+    /// clear them when the answer is made.
+    fn read(&mut self, name: Name, cast: Cast, room: &mut [u8]) -> Result<usize, Refusal> {
+        let Cast::One(lamp) = cast else {
+            return Err(Refusal::Cast);
+        };
+        let Some(slot) = self.first(lamp).filter(|slot| lamp::is_initialized(slot)) else {
+            return Ok(0);
+        };
+        let health = lamp::health(slot);
+        let bytes = lamp::register(slot, name).unwrap_or(&health);
+        let count = answer(lamp.address(), name, bytes, room)?;
+        if matches!(name, Name::ReadStatus | Name::ReadTempSt) {
+            lamp::clear_flags(slot);
+        }
+        Ok(count)
+    }
+
+    /// An init from a first address, or at 000; the last lamp answers.
+    fn init(
+        &mut self,
+        name: Name,
+        cast: Cast,
+        direction: Direction,
+        room: &mut [u8],
+    ) -> Result<usize, Refusal> {
+        let address = match cast {
+            Cast::One(first) => self.number(first, direction)?,
+            _ => self.number_nobody(direction)?,
+        };
+        let health = lamp::health(&self.slots[self.slots.len() - 1]);
+        answer(address, name, &health, room)
+    }
+
+    /// Numbers the lamps and gives the last one's address; refuses to run past
+    /// 3EF with 12.
+    fn number(&mut self, first: Lamp, direction: Direction) -> Result<u16, Refusal> {
+        let first = first.address();
+        let last = u32::from(first) + self.slots.len() as u32 - 1;
+        let last = Lamp::new(last).ok_or(Refusal::PastEnd)?;
+        for (slot, address) in self.slots.iter_mut().zip(first..) {
+            lamp::number(slot, address, direction);
+        }
+        Ok(last.address())
+    }
+
+    /// Init at 000: refused with 7 while a lamp has no address. INITBIDIR sets
+    /// CE on every lamp.
+    fn number_nobody(&mut self, direction: Direction) -> Result<u16, Refusal> {
+        if self.slots.iter().any(lamp::is_unnumbered) {
+            return Err(Refusal::Cast);
+        }
+        if direction == Direction::Bidirectional {
+            self.slots.iter_mut().for_each(lamp::set_error);
+        }
+        Ok(0)
+    }
+}
