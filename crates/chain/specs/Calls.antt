@@ -50,11 +50,12 @@ abbrev pub lastMemory : List ℕ → List Returned → List ℕ
 lastMemory mem [] = mem
 lastMemory mem (r ∷ rs) = lastMemory (r .memory) rs
 
--- What is compared of a call: the number given back and the answer's bytes, or that there is none.
+-- What is compared of a call: the number given back and the answer's bytes, or that there is none ..
 abbrev pub heardAs : Outcome ℕ → List ℕ → Outcome (List ℕ)
 heardAs (refused n) room = refused n
 heardAs (done count) room = done (take count room)
 
+-- .. of what a call left and gave back.
 abbrev pub heard : Returned → Outcome (List ℕ)
 heard r = heardAs (deliveredAs (r .answer)) (r .room)
 

@@ -41,11 +41,12 @@ unfoldable pub sweep : (ℕ → Lamp → Lamp) → ℕ → ℕ → List ℕ → 
 sweep rule p zero mem = mem
 sweep rule p (suc n) mem = sweep rule (suc p) n (withLamp mem p (rule p (lampAt mem p)))
 
--- The lamps that an order reaches: everyone, or the members of a group, which is below 16.
+-- The lamps that an order reaches: everyone, or the members of a group.
 abbrev pub reached : Reach → Lamp → Bool
 reached Everyone l = true
 reached (Members g) l = member g l
 
+-- A group is a bit of the group word, below 16.
 abbrev pub reachFits : Reach → Bool
 reachFits Everyone = true
 reachFits (Members g) = ltb g 16

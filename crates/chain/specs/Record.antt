@@ -15,13 +15,15 @@ use Rattle.rules.specs.declared.Defaults.{Defaults}
 use Rattle.rules.specs.Lamp.{lamp, flags, statusOf}
 use Rattle.rules.specs.Chain.{Chain, countRight, addressesRight}
 
--- The header has 6 bytes, a lamp's slot 16; the slot of place p begins behind the slots before it.
+-- The header has 6 bytes.
 abbrev pub headerSize : ℕ
 headerSize = 6
 
+-- A lamp's slot has 16 bytes.
 abbrev pub slotSize : ℕ
 slotSize = 16
 
+-- The slot of place p begins behind the header and the slots before it.
 abbrev pub slotAt : ℕ → ℕ
 slotAt p = headerSize + slotSize * p
 
@@ -33,10 +35,11 @@ recordLength n = slotAt n
 abbrev pub stateIn : ℕ → State
 stateIn b = cond (eqb (b / 64) 0) Uninitialized (cond (eqb (b / 64) 1) Sleep (cond (eqb (b / 64) 2) Active DeepSleep))
 
--- .. COM in bit 4, and the flags OTPCRC in bit 5, CE 3, LOS 2, OT 1, UV 0.
+-- .. COM in bit 4 ..
 abbrev pub directionIn : ℕ → Bool
 directionIn b = eqb (b / 16 % 2) 1
 
+-- .. and the flags OTPCRC in bit 5, CE 3, LOS 2, OT 1, UV 0.
 abbrev pub flagsIn : ℕ → Flags
 flagsIn b = flags (eqb (b / 32 % 2) 1) (eqb (b / 8 % 2) 1) (eqb (b / 4 % 2) 1) (eqb (b / 2 % 2) 1) (eqb (b % 2) 1)
 
@@ -53,11 +56,12 @@ slotOf l =
     wordBytes (l .address .0) ++ (statusOf l ∷ l .temperature ∷ l .thresholds .cycle ∷ l .thresholds .low ∷ l .thresholds .high ∷ l .setup ∷ [])
     ++ wordBytes (l .groups) ++ wordBytes (l .pwm .red) ++ wordBytes (l .pwm .green) ++ wordBytes (l .pwm .blue)
 
--- The lamps of n slots, one behind the other, and the slots of lamps.
+-- The lamps of n slots, one behind the other ..
 unfoldable pub lampsOf : ℕ → List ℕ → List Lamp
 lampsOf zero s = []
 lampsOf (suc n) s = lampOf s ∷ lampsOf n (drop slotSize s)
 
+-- .. and the slots of lamps.
 unfoldable pub slotsOf : List Lamp → List ℕ
 slotsOf [] = []
 slotsOf (x ∷ xs) = slotOf x ++ slotsOf xs

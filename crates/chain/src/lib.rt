@@ -74,12 +74,14 @@ pub struct Order {
     pub reach: Reach,
 }
 
+// Whether both hold.
 fn and(a: bool, b: bool) -> bool
     ensures { λ r. ⌜ r ≡ (a && b) ⌝ }
 {
     if a { b } else { false }
 }
 
+// Whether one of two holds.
 fn or(a: bool, b: bool) -> bool
     ensures { λ r. ⌜ r ≡ (a || b) ⌝ }
 {
@@ -141,7 +143,7 @@ fn status_in(b: u8) -> Status
     }
 }
 
-// Three PWM words from the six bytes at an index.
+// The three PWM words of a slot.
 fn words_in(s: &[u8]) -> Words
     requires { ⌜ 16 ≤ length (now s) ⌝ }
     ensures { λ r. ⌜ r ≡ lampOf (now (s .entry)) .pwm ⌝ }

@@ -52,22 +52,27 @@ lamp a s loop f t th setup groups pwm =
       pwm = pwm;
     }
 
--- A lamp with its state, its flags, .. changed and nothing else.
+-- A lamp with another state and nothing else changed ..
 abbrev pub withState : State → Lamp → Lamp
 withState s l = lamp (l .address) s (l .direction) (l .flags) (l .temperature) (l .thresholds) (l .setup) (l .groups) (l .pwm)
 
+-- .. with other flags ..
 abbrev pub withFlags : Flags → Lamp → Lamp
 withFlags f l = lamp (l .address) (l .state) (l .direction) f (l .temperature) (l .thresholds) (l .setup) (l .groups) (l .pwm)
 
+-- .. with other thresholds ..
 abbrev pub withThresholds : Thresholds → Lamp → Lamp
 withThresholds th l = lamp (l .address) (l .state) (l .direction) (l .flags) (l .temperature) th (l .setup) (l .groups) (l .pwm)
 
+-- .. with another setup byte ..
 abbrev pub withSetup : ℕ → Lamp → Lamp
 withSetup x l = lamp (l .address) (l .state) (l .direction) (l .flags) (l .temperature) (l .thresholds) x (l .groups) (l .pwm)
 
+-- .. with another group word ..
 abbrev pub withGroups : ℕ → Lamp → Lamp
 withGroups w l = lamp (l .address) (l .state) (l .direction) (l .flags) (l .temperature) (l .thresholds) (l .setup) w (l .pwm)
 
+-- .. with other PWM words.
 abbrev pub withPwm : Words → Lamp → Lamp
 withPwm w l = lamp (l .address) (l .state) (l .direction) (l .flags) (l .temperature) (l .thresholds) (l .setup) (l .groups) w
 
@@ -75,10 +80,11 @@ withPwm w l = lamp (l .address) (l .state) (l .direction) (l .flags) (l .tempera
 abbrev pub flags : Bool → Bool → Bool → Bool → Bool → Flags
 flags otpcrc ce los ot uv = record { otpcrc = otpcrc; ce = ce; los = los; ot = ot; uv = uv }
 
--- The five flags become 0.
+-- No flag is set.
 abbrev pub noFlags : Flags
 noFlags = flags false false false false false
 
+-- The five flags become 0.
 abbrev pub cleared : Lamp → Lamp
 cleared l = withFlags noFlags l
 

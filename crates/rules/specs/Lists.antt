@@ -142,12 +142,13 @@ NeighboursTrade =
     → a ≢ b
     → Traded c before i j after
 
--- A telegram in the list which the dissector refuses, or which goes to a one-lamp address that init gave to no lamp of n from a.
+-- A telegram in the list which the dissector refuses, or which goes to a one-lamp address that init gave to no lamp of n from a ..
 abbrev pub NobodysCast : ℕ → ℕ → Cast → Type 0
 NobodysCast n a Everyone = ⊥
 NobodysCast n a (One b) = (p : ℕ) → p < n → b .0 ≢ a + p
 NobodysCast n a (Group g) = ⊥
 
+-- .. of what the dissector gave.
 abbrev pub Nobodys : ℕ → ℕ → Outcome Sent → Type 0
 Nobodys n a (refused r) = Unit {0}
 Nobodys n a (done t) = NobodysCast n a (t .cast)
