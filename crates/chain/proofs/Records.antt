@@ -214,16 +214,32 @@ unfolding lampsIn
 sweep-is rule n mem h = ap (sweep rule 0 n) (sym (install-none mem)) ∙ sweep-on rule n 0 mem [] h refl
 
 -- A sweep from place n up to n does nothing; one from i goes on with place i.
-pub sweep-none : (rule : ℕ → Lamp → Lamp) (n : ℕ) (mem : List ℕ) → sweep rule n (n - n) mem ≡ mem
+sweep-none : (rule : ℕ → Lamp → Lamp) (n : ℕ) (mem : List ℕ) → sweep rule n (n - n) mem ≡ mem
 unfolding sweep
 sweep-none rule n mem = rw sub-self
 
-pub sweep-more : (rule : ℕ → Lamp → Lamp) (i n : ℕ) (mem : List ℕ) → i < n
+sweep-more : (rule : ℕ → Lamp → Lamp) (i n : ℕ) (mem : List ℕ) → i < n
     → sweep rule i (n - i) mem ≡ sweep rule (i + 1) (n - (i + 1)) (withLamp mem i (rule i (lampAt mem i)))
 unfolding sweep
 sweep-more rule i n mem h =
     let e : n - i ≡ suc (n - (i + 1)) = omega arith in
     rw (e, add-one)
+
+-- A loop that sweeps the lamps: at place i the rest of the sweep makes of memory what the whole makes of it at the start.
+abbrev pub Swept : (ℕ → Lamp → Lamp) → ℕ → List ℕ → ℕ → List ℕ → Type 0
+Swept rule n mem₀ i mem = (i ≤ n) × (sweep rule i (n - i) mem ≡ sweep rule 0 n mem₀) × (length mem ≡ length mem₀)
+
+module _ (rule : ℕ → Lamp → Lamp) (n : ℕ) (mem₀ : List ℕ) where
+  pub swept-none : Swept rule n mem₀ 0 mem₀
+  swept-none = (omega arith, ap (λ (k : ℕ). sweep rule 0 k mem₀) (sub-zero n), refl)
+
+  pub swept-more : (i : ℕ) (mem : List ℕ) {mem′ : List ℕ} → Swept rule n mem₀ i mem → i < n
+      → mem′ ≡ withLamp mem i (rule i (lampAt mem i)) → length mem′ ≡ length mem → Swept rule n mem₀ (i + 1) mem′
+  swept-more i mem s h e k =
+      (omega arith, ap (sweep rule (i + 1) (n - (i + 1))) e ∙ sym (sweep-more rule i n mem h) ∙ s .1, k ∙ s .2)
+
+  pub swept-all : (i : ℕ) (mem : List ℕ) → Swept rule n mem₀ i mem → n ≡ i → mem ≡ sweep rule 0 n mem₀
+  swept-all i mem s e = sym (sweep-none rule i mem) ∙ ap (λ (k : ℕ). sweep rule i (k - i) mem) (sym e) ∙ s .1
 
 -- A sweep leaves the length of memory.
 pub length-sweep : (rule : ℕ → Lamp → Lamp) (p n : ℕ) (mem : List ℕ) → slotAt (p + n) ≤ length mem

@@ -2,11 +2,10 @@
 -- Assumes nothing.
 use mathlib.Core.Path.{_≡_, refl, sym, ap, ap₂, _∙_}
 use mathlib.Core.Logic.{_≢_}
-use mathlib.Core.Bool.{Bool, true, false, cond, not, _&&_, _||_, or-true}
+use mathlib.Core.Bool.{Bool, true, false, cond, not, _&&_, _||_}
 use mathlib.Core.List.{List, [], _∷_}
 use Prim.Native.Nat.{ℕ, suc, _+_, _-_, _≤_, _<_}
 use native.Mathlib.Omega.{arith}
-use native.Mathlib.Nat.{sub-zero}
 use lib.Dec.{eqb, leb, ltb}
 use lib.ListN.{length, getD, set}
 use borrow.Author.Tests.{lt-ltb, le-ltb, eq-eqb, ne-eqb}
@@ -25,10 +24,10 @@ use Rattle.rules.specs.declared.Lamp.{Lamp}
 use Rattle.rules.specs.Lamp.{uninitialized, changed, acted, answered, report, numberedAs, withCE}
 use Rattle.rules.specs.Chain.{withLamps, Step, Walked, walk, taken, reaching, isInit, visiting, permitting, anyUnaddressed, responding, delivering, deliver, answerFrom}
 use Rattle.lamp.specs.Reactions.{altered}
-use Rattle.lamp.specs.declared.Change.{Change}
 use Rattle.chain.specs.Record.{countOf, lampsIn, decode, hold, chainIn}
 use Rattle.chain.specs.Places.{lampAt, withLamp, sweep, reached, ordered, placeFrom, heldAfter}
-use Rattle.chain.specs.Memory.{Left, delivered, respondedIn, refusedIn, reachedIn, initOf, castOf}
+use Rattle.chain.specs.Memory.{Left, delivered}
+use Rattle.chain.specs.Helpers.{respondedIn, refusedIn, reachedIn, initOf, castOf}
 use Rattle.chain.specs.declared.Found.the-variants.{At, Nobody}
 use Rattle.chain.specs.declared.Reach.{Reach}
 use Rattle.chain.specs.declared.Reach.the-variants.{Everyone as All, Members}
@@ -78,15 +77,10 @@ module _ (mem room : List ℕ) {w : Walked} {xs : List Lamp} where
       }
 
 -- Two rules that agree at each lamp.
-each-same : (f g : ℕ → Lamp → Lamp) → ((p : ℕ) (l : Lamp) → f p l ≡ g p l) → (p : ℕ) (xs : List Lamp) → eachFrom f p xs ≡ eachFrom g p xs
+each-alike : (f g : ℕ → Lamp → Lamp) → ((p : ℕ) (l : Lamp) → f p l ≡ g p l) → (p : ℕ) (xs : List Lamp) → eachFrom f p xs ≡ eachFrom g p xs
 unfolding eachFrom
-each-same f g h p [] = refl
-each-same f g h p (x ∷ xs) = ap₂ (λ (y : Lamp) (ys : List Lamp). y ∷ ys) (h p x) (each-same f g h (suc p) xs)
-
--- One place swept.
-pub sweep-one : (rule : ℕ → Lamp → Lamp) (p : ℕ) (mem : List ℕ) → sweep rule p (p + 1 - p) mem ≡ withLamp mem p (rule p (lampAt mem p))
-unfolding sweep
-sweep-one rule p mem = let e : p + 1 - p ≡ 1 = omega arith in ap (λ (n : ℕ). sweep rule p n mem) e
+each-alike f g h p [] = refl
+each-alike f g h p (x ∷ xs) = ap₂ (λ (y : Lamp) (ys : List Lamp). y ∷ ys) (h p x) (each-alike f g h (suc p) xs)
 
 -- An order for the lamps that a command reaches does what the command does.
 pub record OrderFor (m : Message) (reach : Reach) (o : Order) : Type 0 where
@@ -122,22 +116,21 @@ module _ (mem : List ℕ) (b : Bytes mem) (v : Valid mem (decode mem)) where
 
   -- Everyone and a group: the order for each lamp is the walk.
   pub spread-held : (m : Message) (reach : Reach) (o : Order) → OrderFor m reach o
-      → sweep (λ (p : ℕ) (l : Lamp). ordered (decode mem .defaults) o l) 0 (countOf mem - 0) mem ≡ heldAfter mem (reachedIn mem m (castOf reach))
+      → sweep (λ (p : ℕ) (l : Lamp). ordered (decode mem .defaults) o l) 0 (countOf mem) mem ≡ heldAfter mem (reachedIn mem m (castOf reach))
   unfolding heldAfter reachedIn decode
   spread-held m reach o h =
       let d = decode mem .defaults in
       let xs = lampsIn (countOf mem) mem in
       let rule : ℕ → Lamp → Lamp = λ (p : ℕ) (l : Lamp). ordered d o l in
-      ap (λ (n : ℕ). sweep rule 0 n mem) (sub-zero (countOf mem))
-      ∙ hold-each mem b (v .room) rule
+      hold-each mem b (v .room) rule
       ∙ ap (λ (ys : List Lamp). hold mem (withLamps (decode mem) ys)) (by reach h)
     where
       by : (r : Reach) → OrderFor m r o
           → eachFrom (λ (p : ℕ) (l : Lamp). ordered (decode mem .defaults) o l) 0 (lampsIn (countOf mem) mem)
           ≡ walk (reaching (decode mem .defaults) m (castOf r)) 0 (lampsIn (countOf mem) mem) .lamps
-      by All k = each-same _ _ (λ p l. ordered-acts m All o k (decode mem .defaults) l) 0 (lampsIn (countOf mem) mem)
+      by All k = each-alike _ _ (λ p l. ordered-acts m All o k (decode mem .defaults) l) 0 (lampsIn (countOf mem) mem)
           ∙ sym (ap (λ (w : Walked). w .lamps) (walk-everyone (decode mem .defaults) m 0 (lampsIn (countOf mem) mem)))
-      by (Members g) k = each-same _ _ (λ p l. ordered-acts m (Members g) o k (decode mem .defaults) l) 0 (lampsIn (countOf mem) mem)
+      by (Members g) k = each-alike _ _ (λ p l. ordered-acts m (Members g) o k (decode mem .defaults) l) 0 (lampsIn (countOf mem) mem)
           ∙ sym (ap (λ (w : Walked). w .lamps) (walk-group (decode mem .defaults) m 0 (lampsIn (countOf mem) mem) g))
 
   -- Unicast: nobody has the address ..
@@ -155,7 +148,7 @@ module _ (mem : List ℕ) (b : Bytes mem) (v : Valid mem (decode mem)) where
         rw length-lampsIn at h
 
     pub unicast-found : (room : List ℕ) (o : Order) → OrderFor m All o → {mem′ room′ p : List ℕ} {r : Outcome ℕ}
-        → mem′ ≡ sweep (λ (p : ℕ) (l : Lamp). ordered (decode mem .defaults) o l) (q .0) (q .0 + 1 - q .0) mem
+        → mem′ ≡ withLamp mem (q .0) (ordered (decode mem .defaults) o (lampAt mem (q .0)))
         → p ≡ answered (m .number) (lampAt mem (q .0))
         → r ≡ counted (done (answerFrom (a .0) (m .number) p)) → room′ ≡ front (answerFrom (a .0) (m .number) p) room
         → Walks mem room (reachedIn mem m (One a)) r mem′ room′
@@ -168,8 +161,7 @@ module _ (mem : List ℕ) (b : Bytes mem) (v : Valid mem (decode mem)) where
         let g = getD-lampsIn (q .0) n mem y found-in in
         walks-done mem room w
         (er ∙ ap (λ (p : List ℕ). counted (done (answerFrom (a .0) (m .number) p))) (ep ∙ ap (answered (m .number)) (sym g)))
-        (em ∙ sweep-one (λ (p : ℕ) (l : Lamp). ordered d o l) (q .0) mem
-        ∙ ap (withLamp mem (q .0)) (ordered-acts m All o h d y ∙ ap (acted d m) (sym g))
+        (em ∙ ap (withLamp mem (q .0)) (ordered-acts m All o h d y ∙ ap (acted d m) (sym g))
         ∙ hold-set mem b (v .room) (q .0) (acted d m (getD (lampsIn n mem) (q .0) y)) found-in)
         (eo ∙ ap (λ (p : List ℕ). front (answerFrom (a .0) (m .number) p) room) (ep ∙ ap (answered (m .number)) (sym g)))
 
@@ -242,24 +234,16 @@ module _ (mem : List ℕ) (b : Bytes mem) (v : Valid mem (decode mem)) where
     unfolding respondedIn responding permitting decode
     init-unaddressed room h = walks-refused mem room (simp (i, h)) held-same
 
-    -- .. else each lamp takes the order, and the last one answers.
-    pub init-marks : (room : List ℕ) (o : Order) → ((d : Defaults) (l : Lamp) → ordered d o l ≡ cond (eqb k 0x02) (withCE l) l)
-        → {n : ℕ} → n ≡ countOf mem → anyUnaddressed (lampsIn n mem) ≡ false → {mem′ room′ : List ℕ} {r : Outcome ℕ}
-        → mem′ ≡ sweep (λ (p : ℕ) (l : Lamp). ordered (decode mem .defaults) o l) 0 (n - 0) mem
+    -- .. else INITBIDIR sets CE on each lamp, and the last one answers.
+    pub init-marks : (room : List ℕ) {n : ℕ} → n ≡ countOf mem → anyUnaddressed (lampsIn n mem) ≡ false → {mem′ room′ : List ℕ} {r : Outcome ℕ}
+        → mem′ ≡ sweep (λ (p : ℕ) (l : Lamp). cond (eqb k 0x02) (withCE l) l) 0 n mem
         → r ≡ counted (done (answerFrom 0 k (report (lampAt mem′ (n - 1))))) → room′ ≡ front (answerFrom 0 k (report (lampAt mem′ (n - 1)))) room
         → Walks mem room (respondedIn mem (initOf k Everyone)) r mem′ room′
     unfolding respondedIn responding permitting visiting decode
-    init-marks room o h {n} en any em er eo =
+    init-marks room {n} en any em er eo =
         let xs = lampsIn (countOf mem) mem in
-        let d = decode mem .defaults in
-        let f : ℕ → Lamp → Lamp = λ (p : ℕ) (l : Lamp). ordered d o l in
-        let g : ℕ → Lamp → Lamp = λ (p : ℕ) (l : Lamp). cond (eqb k 0x02) (withCE l) l in
-        let same = each-same g f (λ p l. sym (h d l)) 0 xs in
         let no : anyUnaddressed xs ≡ false = ap (λ (q : ℕ). anyUnaddressed (lampsIn q mem)) (sym en) ∙ any in
-        last-answers room f en refl
-        (simp (i, no) (walk-init-all k (lampAt mem 0) xs some)
-        ∙ ap (λ (ys : List Lamp). record { lamps = ys; outcome = done (answerFrom 0 k (report (getD ys (length xs - 1) (lampAt mem 0)))) }) same)
-        (em ∙ ap (λ (q : ℕ). sweep f 0 q mem) (sub-zero n)) er eo
+        last-answers room (λ (p : ℕ) (l : Lamp). cond (eqb k 0x02) (withCE l) l) en refl (simp (i, no) (walk-init-all k (lampAt mem 0) xs some)) em er eo
 
     -- An init for a group is refused. (The dissector accepts none.)
     pub init-group : (g : ℕ) (room : List ℕ) → Walks mem room (respondedIn mem (initOf k (Group g))) (refused 7) mem room
@@ -271,17 +255,14 @@ module _ (mem : List ℕ) (b : Bytes mem) (v : Valid mem (decode mem)) where
   unfolding refusedIn responding decode
   refuse-other n room h = walks-refused mem room (rw (ne-eqb n 5 h)) held-same
 
-  pub refuse-marks : (n : ℕ) (room : List ℕ) (o : Order) → n ≡ 5 → ((d : Defaults) (l : Lamp) → ordered d o l ≡ withCE l) → {mem′ : List ℕ}
-      → mem′ ≡ sweep (λ (p : ℕ) (l : Lamp). ordered (decode mem .defaults) o l) 0 (0 + 1 - 0) mem
+  pub refuse-marks : (n : ℕ) (room : List ℕ) → n ≡ 5 → {mem′ : List ℕ} → mem′ ≡ withLamp mem 0 (withCE (lampAt mem 0))
       → Walks mem room (refusedIn mem n) (refused n) mem′ room
   unfolding refusedIn responding decode
-  refuse-marks n room o e h em =
-      let d = decode mem .defaults in
+  refuse-marks n room e em =
       let x = lampAt mem 0 in
       let xs : lampsIn (countOf mem) mem ≡ x ∷ rest 1 (countOf mem) mem = sym (rest-all (countOf mem) mem) ∙ rest-more 0 (countOf mem) mem (v .some) in
       walks-refused mem room (rw (eq-eqb n 5 e, xs))
-      (em ∙ sweep-one (λ (p : ℕ) (l : Lamp). ordered d o l) 0 mem ∙ ap (withLamp mem 0) (h d x)
-      ∙ hold-set mem b (v .room) 0 (withCE x) (v .some)
+      (em ∙ hold-set mem b (v .room) 0 (withCE x) (v .some)
       ∙ ap (λ (ys : List Lamp). hold mem (withLamps (decode mem) (set ys 0 (withCE x)))) xs)
 
 -- Delivery: 9, 11, and else what the lamps in memory do with what the dissector gave.
@@ -309,11 +290,6 @@ accepted-cast s t e =
 pub order-for : (m : Message) (reach : Reach) (o : Order) {n : ℕ} → m .number ≡ n → (o .always ≡ leb n 0x01) × (o .reach ≡ reach)
     → ((d : Defaults) (l : Lamp) → altered d (o .change) l ≡ changed d m l) → OrderFor m reach o
 order-for m reach o e h c = record { always = h .0 ∙ ap (λ (k : ℕ). leb k 0x01) (sym e); same = h .1; change = c }
-
--- An order for each lamp in every state.
-pub always-acts : (c : Change) (o : Order) → o ≡ record { change = c; always = true; reach = All } → (d : Defaults) (l : Lamp)
-    → ordered d o l ≡ altered d c l
-always-acts c o e d l = rw (e, or-true (not (uninitialized (l .state))))
 
 -- A command for everyone or a group is done without an answer.
 quiet : (mem : List ℕ) (m : Message) (r : Reach) → reachedIn mem m (castOf r) .outcome ≡ done []

@@ -1,27 +1,25 @@
--- A lamp and its slot, there and back, and what a store over a part of a slot makes of memory.
+-- A lamp and its slot, there and back, and what a store makes of memory.
 -- Assumes nothing.
 use mathlib.Core.Path.{_≡_, refl, sym, ap, _∙_}
-use mathlib.Core.Bool.{Bool, true, false}
+use mathlib.Core.Bool.{Bool, true, false, cond}
 use mathlib.Core.List.{List, [], _∷_, _++_, append-assoc}
 use Prim.Native.Nat.{ℕ, zero, suc, _+_, _*_, _/_, _%_, _≤_, _<_, _-_}
 use native.Mathlib.Omega.{arith}
 use native.Mathlib.Nat.{add-zero, not-suc-le-zero, le-of-suc-le-suc}
 use lib.Dec.{eqb, eqb→eq, lit≤}
 use lib.ListN.{length, getD, take, drop, length-append, length-drop, take-append-drop}
-use lib.Seq.{length-take-le, take-append-add, take-append-le, drop-append-add, drop-append-le, drop-at, drop-drop, getD-drop, take-all}
+use lib.Seq.{length-take-le, drop-at, drop-drop, getD-drop, take-all}
+use borrow.Author.Tests.{eqb-true, eqb-false, eq-eqb, ne-eqb}
 use Rattle.checksum.proofs.Below.{at}
 use Rattle.telegram.specs.Telegram.{Bytes}
 use Rattle.telegram.proofs.Front.{overwritten}
-use Rattle.command.specs.Fields.{wordBytes}
 use Rattle.rules.specs.declared.State.{State}
 use Rattle.rules.specs.declared.State.the-variants.{Uninitialized, Sleep, Active, DeepSleep}
 use Rattle.rules.specs.declared.Flags.{Flags}
-use Rattle.rules.specs.declared.Thresholds.{Thresholds}
-use Rattle.rules.specs.declared.Words.{Words}
 use Rattle.rules.specs.declared.Lamp.{Lamp}
-use Rattle.rules.specs.Lamp.{stateNumber, bit, statusByte, statusOf, withThresholds, withSetup, withGroups, withPwm, numberedAs, sensed}
+use Rattle.rules.specs.Lamp.{stateNumber, bit, statusByte, withState}
 use Rattle.chain.specs.Record.{slotAt, slotSize, stateIn, directionIn, flagsIn, lampOf, slotOf}
-use Rattle.chain.specs.Places.{lampAt, statusAt, withStatus, withLamp}
+use Rattle.chain.specs.Places.{lampAt, withLamp}
 
 -- The digits of a status byte, over plain numbers.
 module _ (st a b c d e f : ℕ) (ha : a ≤ 1) (hb : b ≤ 1) (hc : c ≤ 1) (hd : d ≤ 1) (he : e ≤ 1) (hf : f ≤ 1) where
@@ -98,6 +96,14 @@ high-back h l p = omega arith
 pub low-back : (h l : ℕ) → l < 256 → (h * 256 + l) % 256 ≡ l
 low-back h l p = omega arith
 
+-- Two bytes are those of a word also if both are read with the low byte on top.
+pub swapped : (h l a : ℕ) → h < 256 → l < 256 → a / 256 < 256 → eqb (l * 256 + h) (a % 256 * 256 + a / 256) ≡ eqb (h * 256 + l) a
+swapped h l a ph pl pa = go (eqb (h * 256 + l) a) refl
+  where
+    go : (b : Bool) → eqb (h * 256 + l) a ≡ b → eqb (l * 256 + h) (a % 256 * 256 + a / 256) ≡ b
+    go true e = let q : h * 256 + l ≡ a = eqb-true _ _ e in eq-eqb (l * 256 + h) (a % 256 * 256 + a / 256) (omega arith)
+    go false e = ne-eqb (l * 256 + h) (a % 256 * 256 + a / 256) (λ q. eqb-false (h * 256 + l) a e (omega arith))
+
 -- The first n elements of a list, by their index.
 abbrev pub firsts : ℕ → (ℕ → ℕ) → List ℕ
 firsts zero f = []
@@ -144,77 +150,10 @@ with-self mem p b h =
     )
     (take-append-drop (slotAt p) mem)
 
--- Bytes written inside the middle one of three lists stay inside it.
-within : (f s r bs : List ℕ) (k : ℕ) → k + length bs ≤ length s
-    → overwritten (f ++ (s ++ r)) (length f + k) bs ≡ f ++ (overwritten s k bs ++ r)
-within f s r bs k h =
-    let e : length f + k + length bs ≡ length f + (k + length bs) = omega arith in
-    rw (
-      e,
-      take-append-add f (s ++ r) k,
-      take-append-le k s r (omega arith),
-      drop-append-add f (s ++ r) (k + length bs),
-      drop-append-le (k + length bs) s r h,
-    )
-    (simp append-assoc)
-
--- Bytes written over a part of a slot store the lamp whose slot that makes.
-pub stored : (mem : List ℕ) (p k : ℕ) (bs : List ℕ) (l : Lamp) → Bytes mem → slotAt p + slotSize ≤ length mem
-    → k + length bs ≤ slotSize → overwritten (slotOf (lampAt mem p)) k bs ≡ slotOf l
-    → overwritten mem (slotAt p + k) bs ≡ withLamp mem p l
-unfolding withLamp
-stored mem p k bs l b h fits e =
-    let f = take (slotAt p) mem in
-    let r = drop (slotAt p + slotSize) mem in
-    let at : length f ≡ slotAt p = length-take-le (slotAt p) mem (omega arith) in
-    ap (λ (m : List ℕ). overwritten m (slotAt p + k) bs) (sym (with-self mem p b h))
-    ∙ ap (λ (n : ℕ). overwritten (f ++ (slotOf (lampAt mem p) ++ r)) (n + k) bs) (sym at)
-    ∙ within f (slotOf (lampAt mem p)) r bs k (rw slot-length fits)
-    ∙ ap (λ (s : List ℕ). f ++ (s ++ r)) e
-
 -- A whole slot written stores its lamp.
 pub put-lamp : (mem : List ℕ) (p : ℕ) (l : Lamp) {bs : List ℕ} → bs ≡ slotOf l → overwritten mem (slotAt p) bs ≡ withLamp mem p l
 unfolding withLamp
 put-lamp mem p l e = rw (e, slot-length, append-assoc)
-
--- So do the bytes of one register: status, thresholds, setup, group word, PWM; of an init: address and status; of a sensor report:
--- status and temperature.
-module _ (mem : List ℕ) (p : ℕ) (b : Bytes mem) (h : slotAt p + slotSize ≤ length mem) where
-  pub put-status : (s : State) (d : Bool) (f : Flags) {bs : List ℕ} → bs ≡ statusByte s d f ∷ []
-      → overwritten mem (slotAt p + 2) bs ≡ withLamp mem p (withStatus s d f (lampAt mem p))
-  unfolding slotOf
-  put-status s d f e = rw e (stored mem p 2 _ (withStatus s d f (lampAt mem p)) b h (lit≤ tt) refl)
-
-  pub put-thresholds : (t : Thresholds) {bs : List ℕ} → bs ≡ t .cycle ∷ t .low ∷ t .high ∷ []
-      → overwritten mem (slotAt p + 4) bs ≡ withLamp mem p (withThresholds t (lampAt mem p))
-  unfolding slotOf
-  put-thresholds t e = rw e (stored mem p 4 _ (withThresholds t (lampAt mem p)) b h (lit≤ tt) refl)
-
-  pub put-setup : (x : ℕ) {bs : List ℕ} → bs ≡ x ∷ [] → overwritten mem (slotAt p + 7) bs ≡ withLamp mem p (withSetup x (lampAt mem p))
-  unfolding slotOf
-  put-setup x e = rw e (stored mem p 7 _ (withSetup x (lampAt mem p)) b h (lit≤ tt) refl)
-
-  pub put-groups : (w : ℕ) {bs : List ℕ} → bs ≡ wordBytes w
-      → overwritten mem (slotAt p + 8) bs ≡ withLamp mem p (withGroups w (lampAt mem p))
-  unfolding slotOf
-  put-groups w e = rw e (stored mem p 8 _ (withGroups w (lampAt mem p)) b h (lit≤ tt) refl)
-
-  pub put-pwm : (w : Words) {bs : List ℕ} → bs ≡ wordBytes (w .red) ++ wordBytes (w .green) ++ wordBytes (w .blue)
-      → overwritten mem (slotAt p + 10) bs ≡ withLamp mem p (withPwm w (lampAt mem p))
-  unfolding slotOf
-  put-pwm w e = rw e (stored mem p 10 _ (withPwm w (lampAt mem p)) b h (lit≤ tt) refl)
-
-  pub put-numbered : (n a : ℕ) {bs : List ℕ} → bs ≡ wordBytes a ++ (statusByte Sleep (eqb n 0x03) (lampAt mem p .flags) ∷ [])
-      → overwritten mem (slotAt p) bs ≡ withLamp mem p (numberedAs n a (lampAt mem p))
-  unfolding slotOf
-  put-numbered n a e =
-      let s = wordBytes a ++ (statusByte Sleep (eqb n 0x03) (lampAt mem p .flags) ∷ []) in
-      rw e (rw add-zero at (stored mem p 0 s (numberedAs n a (lampAt mem p)) b h (lit≤ tt) refl))
-
-  pub put-sensed : (t faults : ℕ) {bs : List ℕ} → bs ≡ statusOf (sensed t faults (lampAt mem p)) ∷ t ∷ []
-      → overwritten mem (slotAt p + 2) bs ≡ withLamp mem p (sensed t faults (lampAt mem p))
-  unfolding slotOf
-  put-sensed t faults e = rw e (stored mem p 2 _ (sensed t faults (lampAt mem p)) b h (lit≤ tt) refl)
 
 -- What a part `&s[at..]` is.
 pub part-to-end : (s : List ℕ) (at : ℕ) → take (length s - at) (drop at s) ≡ drop at s
@@ -226,16 +165,15 @@ pub address-at : (mem : List ℕ) (p : ℕ)
 unfolding lampAt lampOf
 address-at mem p = simp (getD-drop, add-zero)
 
--- Its status, temperature and group word, likewise.
-module _ (mem : List ℕ) (p : ℕ) where
-  pub status-at : let b = getD mem (slotAt p + 2) 0 in record { state = stateIn b; direction = directionIn b; flags = flagsIn b } ≡ statusAt mem p
-  unfolding lampAt lampOf
-  status-at = simp getD-drop
+-- A rule for the lamps that a test picks: done where the test is true, and else the lamp stays.
+module _ (test : Lamp → Bool) (rule : Lamp → Lamp) {x l : Lamp} {b : Bool} (same : x ≡ l) (tested : b ≡ test x) where
+  pub picked : b ≡ true → rule l ≡ cond (test l) (rule l) l
+  picked e = ap (λ (t : Bool). cond t (rule l) l) (sym e ∙ tested ∙ ap test same)
 
-  pub temperature-at : getD mem (slotAt p + 3) 0 ≡ lampAt mem p .temperature
-  unfolding lampAt lampOf
-  temperature-at = simp getD-drop
+  pub passed-by : b ≡ false → l ≡ cond (test l) (rule l) l
+  passed-by e = ap (λ (t : Bool). cond t (rule l) l) (sym e ∙ tested ∙ ap test same)
 
-  pub groups-at : getD mem (slotAt p + 8) 0 * 256 + getD mem (slotAt p + 8 + 1) 0 ≡ lampAt mem p .groups
-  unfolding lampAt lampOf
-  groups-at = let e : slotAt p + 8 + 1 ≡ slotAt p + 9 = omega arith in rw e (simp getD-drop)
+-- A state that a test picks.
+pub state-picked : (b : Bool) (s : State) (l : Lamp) → withState (cond b s (l .state)) l ≡ cond b (withState s l) l
+state-picked true s l = refl
+state-picked false s l = refl

@@ -1,4 +1,5 @@
 pub mod Record
-pub mod Places
 pub mod Memory
 pub mod Calls
+pub mod Places
+pub mod Helpers

@@ -1,25 +1,16 @@
 -- What each call on a chain gives back and leaves in lent memory. Document 01, "Numbers given back", on the chain's calls.
 -- Assumes nothing.
 use Prim.Native.Nat.{ℕ}
-use mathlib.Core.List.{List, []}
+use mathlib.Core.List.{List}
 use lib.Dec.{ltb}
 use lib.ListN.{length}
 use Rattle.telegram.specs.Numbers.{Outcome, refused, done, refuse, after, numberOf}
-use Rattle.telegram.specs.declared.Refusal.{Refusal}
-use Rattle.telegram.specs.declared.Refusal.the-variants.{TooShort}
-use Rattle.command.specs.Commands.{Message, Sent, numbered}
-use Rattle.command.specs.declared.Cast.{Cast}
-use Rattle.command.specs.declared.Cast.the-variants.{Everyone, Group}
-use Rattle.command.specs.declared.Dissection.{Dissection}
-use Rattle.command.specs.declared.Dissection.the-variants.{Accepted, Refused as NotAccepted}
 use Rattle.rules.specs.declared.Defaults.{Defaults}
 use Rattle.rules.specs.declared.Lamp.{Lamp}
-use Rattle.rules.specs.Chain.{Chain, Walked, Moved, walk, reaching, responding, roomSmall, deliver, making, sensing, lampIn}
-use Rattle.chain.specs.Record.{recordLength, decode, hold, chainIn}
+use Rattle.rules.specs.Chain.{Chain, Moved, roomSmall, deliver, making, sensing, lampIn}
+use Rattle.chain.specs.Record.{recordLength, hold, chainIn}
 use Rattle.chain.specs.declared.Delivered.{Delivered}
 use Rattle.chain.specs.declared.Delivered.the-variants.{Done, Refused}
-use Rattle.chain.specs.declared.Reach.{Reach}
-use Rattle.chain.specs.declared.Reach.the-variants.{Everyone as ReachEveryone, Members}
 use Rattle.chain.specs.declared.LampRead.{LampRead}
 use Rattle.chain.specs.declared.LampRead.the-variants.{Read, Unread}
 
@@ -67,29 +58,3 @@ sensedIn mem p t faults = after (chainIn mem) (λ (c : Chain). sensing c p t fau
 -- Reading the lamp at a place out: 11, then 13.
 unfoldable pub lampRead : List ℕ → ℕ → Outcome Lamp
 lampRead mem p = after (chainIn mem) (λ (c : Chain). lampIn (c .lamps) p)
-
--- An accepted telegram and the lamps in memory: 7 for an init at 000, 12, else the walk.
-unfoldable pub respondedIn : List ℕ → Sent → Walked
-respondedIn mem t = responding (decode mem .defaults) (decode mem .lamps) (done t)
-
--- An init of a kind, 02 or 03, for a cast.
-abbrev pub initOf : ℕ → Cast → Sent
-initOf k cast = record { message = numbered k []; cast = cast }
-
--- The refusal that the dissector's answer holds. (An accepted telegram holds none; of it this gives 1.)
-abbrev pub refusalIn : Dissection → Refusal
-refusalIn (NotAccepted e) = e
-refusalIn (Accepted t) = TooShort
-
--- The cast of which an order's reach is made.
-abbrev pub castOf : Reach → Cast
-castOf ReachEveryone = Everyone
-castOf (Members g) = Group g
-
--- A refusal with a number and the lamps in memory: 5 sets CE on the lamp at place 0.
-unfoldable pub refusedIn : List ℕ → ℕ → Walked
-refusedIn mem n = responding (decode mem .defaults) (decode mem .lamps) (refused n)
-
--- The walk of a command that is no init along the lamps in memory.
-unfoldable pub reachedIn : List ℕ → Message → Cast → Walked
-reachedIn mem m cast = walk (reaching (decode mem .defaults) m cast) 0 (decode mem .lamps)

@@ -5,15 +5,12 @@ use mathlib.Core.Bool.{Bool, true, cond, not, _&&_, _||_}
 use mathlib.Core.List.{List, [], _∷_, _++_}
 use lib.Dec.{eqb, ltb}
 use lib.ListN.{take, drop}
-use Rattle.rules.specs.declared.State.{State}
-use Rattle.rules.specs.declared.Flags.{Flags}
 use Rattle.rules.specs.declared.Defaults.{Defaults}
 use Rattle.rules.specs.declared.Lamp.{Lamp}
-use Rattle.rules.specs.Lamp.{lamp, member, uninitialized}
+use Rattle.rules.specs.Lamp.{member, uninitialized}
 use Rattle.rules.specs.Chain.{Walked, withLamps}
 use Rattle.lamp.specs.Reactions.{altered}
 use Rattle.chain.specs.Record.{slotAt, slotSize, lampOf, slotOf, decode, hold}
-use Rattle.chain.specs.declared.Status.{Status}
 use Rattle.chain.specs.declared.Reach.{Reach}
 use Rattle.chain.specs.declared.Reach.the-variants.{Everyone, Members}
 use Rattle.chain.specs.declared.Order.{Order}
@@ -23,14 +20,6 @@ use Rattle.chain.specs.declared.Found.the-variants.{At, Nobody}
 -- The lamp at place p of memory.
 unfoldable pub lampAt : List ℕ → ℕ → Lamp
 lampAt mem p = lampOf (drop (slotAt p) mem)
-
--- The status of the lamp at place p of memory.
-abbrev pub statusAt : List ℕ → ℕ → Status
-statusAt mem p = record { state = lampAt mem p .state; direction = lampAt mem p .direction; flags = lampAt mem p .flags }
-
--- A lamp with another state, direction and flags: another status byte.
-abbrev pub withStatus : State → Bool → Flags → Lamp → Lamp
-withStatus s loop f l = lamp (l .address) s loop f (l .temperature) (l .thresholds) (l .setup) (l .groups) (l .pwm)
 
 -- Memory with a lamp stored at place p.
 unfoldable pub withLamp : List ℕ → ℕ → Lamp → List ℕ
@@ -54,6 +43,10 @@ reachFits (Members g) = ltb g 16
 -- A lamp heeds an order that reaches it, in UNINITIALIZED only one that is always obeyed.
 abbrev pub heeded : Order → Lamp → Bool
 heeded o l = reached (o .reach) l && (not (uninitialized (l .state)) || o .always)
+
+-- A lamp after a change for everyone.
+abbrev pub ifHeeds : Bool → (Lamp → Lamp) → Lamp → Lamp
+ifHeeds always rule l = cond (not (uninitialized (l .state)) || always) (rule l) l
 
 -- A lamp after an order.
 abbrev pub ordered : Defaults → Order → Lamp → Lamp

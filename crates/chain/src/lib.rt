@@ -17,7 +17,7 @@ use telegram::Address;
 use telegram::Built;
 use telegram::Refusal;
 ghost use mathlib.Core.Path.{_≡_};
-ghost use mathlib.Core.Bool.{true, _&&_, _||_, cond};
+ghost use mathlib.Core.Bool.{true, not, _&&_, _||_, cond};
 ghost use mathlib.Core.List.{_++_};
 ghost use Prim.Native.Nat.{ℕ, _+_, _*_, _/_, _%_, _-_, _^_, _≤_, _<_};
 ghost use lib.Dec.{eqb, leb};
@@ -29,12 +29,13 @@ ghost use Rattle.command.specs.Casts.{castInRange};
 ghost use Rattle.command.specs.declared.Cast.the-variants.{Everyone, One};
 ghost use Rattle.rules.specs.declared.Lamp.{Lamp as LampType};
 ghost use Rattle.rules.specs.declared.Defaults.{Defaults as DefaultsType};
-ghost use Rattle.rules.specs.Lamp.{numberedAs, sensed, changed, reset, cleared, withCE, withState, report, withThresholds, withSetup, withGroups, withPwm};
+ghost use Rattle.rules.specs.Lamp.{numberedAs, sensed, changed, uninitialized, withCE, withState, report, withPwm};
 ghost use Rattle.rules.specs.Chain.{addressRight, addressesRight, anyUnaddressed, answerFrom, isInit};
 ghost use Rattle.lamp.specs.Reactions.{altered};
 ghost use Rattle.chain.specs.Record.{slotAt, slotSize, stateIn, directionIn, flagsIn, lampOf, slotOf, headerOf, headerSize, countOf, defaultsOf, lampsIn, decode, chainIn};
-ghost use Rattle.chain.specs.Places.{lampAt, statusAt, withStatus, withLamp, sweep, reached, reachFits, heeded, ordered, placeFrom, heldAfter};
-ghost use Rattle.chain.specs.Memory.{deliveredAs, lampReadAs, delivered, held, silent, made, sensedIn, lampRead, respondedIn, refusedIn, reachedIn, initOf, refusalIn, castOf};
+ghost use Rattle.chain.specs.Places.{lampAt, withLamp, sweep, ifHeeds, reached, reachFits, heeded, ordered, placeFrom, heldAfter};
+ghost use Rattle.chain.specs.Memory.{deliveredAs, lampReadAs, delivered, held, silent, made, sensedIn, lampRead};
+ghost use Rattle.chain.specs.Helpers.{respondedIn, refusedIn, reachedIn, initOf, refusalIn, castOf};
 
 // What a call on a chain answers: done, with the number of bytes that the answer has, or refused.
 pub enum Delivered {
@@ -46,13 +47,6 @@ pub enum Delivered {
 pub enum LampRead {
     Read(Lamp),
     Unread(Refusal),
-}
-
-// What a status byte holds.
-pub struct Status {
-    pub state: State,
-    pub direction: bool,
-    pub flags: Flags,
 }
 
 // Who has an address.
@@ -72,39 +66,6 @@ pub struct Order {
     pub change: Change,
     pub always: bool,
     pub reach: Reach,
-}
-
-// Whether both hold.
-fn and(a: bool, b: bool) -> bool
-    ensures { λ r. ⌜ r ≡ (a && b) ⌝ }
-{
-    if a { b } else { false }
-}
-
-// Whether one of two holds.
-fn or(a: bool, b: bool) -> bool
-    ensures { λ r. ⌜ r ≡ (a || b) ⌝ }
-{
-    if a { true } else { b }
-}
-
-// A word, high byte first, and its two bytes.
-fn word(high: u8, low: u8) -> u16
-    ensures { λ r. ⌜ r ≡ high * 256 + low ⌝ }
-{
-    high as u16 * 256 + low as u16
-}
-
-fn high(w: u16) -> u8
-    ensures { λ r. ⌜ r ≡ w / 256 ⌝ }
-{
-    (w / 256) as u8
-}
-
-fn low(w: u16) -> u8
-    ensures { λ r. ⌜ r ≡ w % 256 ⌝ }
-{
-    (w % 256) as u8
 }
 
 // The state in a status byte.
@@ -132,26 +93,15 @@ fn flags_in(b: u8) -> Flags
     }
 }
 
-// What a status byte holds.
-fn status_in(b: u8) -> Status
-    ensures { λ r. ⌜ r ≡ record { state = stateIn b; direction = directionIn b; flags = flagsIn b } ⌝ }
-{
-    Status {
-        state: state_in(b),
-        direction: b / 16 % 2 == 1,
-        flags: flags_in(b),
-    }
-}
-
 // The three PWM words of a slot.
 fn words_in(s: &[u8]) -> Words
     requires { ⌜ 16 ≤ length (now s) ⌝ }
     ensures { λ r. ⌜ r ≡ lampOf (now (s .entry)) .pwm ⌝ }
 {
     Words {
-        red: word(s[10], s[11]),
-        green: word(s[12], s[13]),
-        blue: word(s[14], s[15]),
+        red: bits::word(s[10], s[11]),
+        green: bits::word(s[12], s[13]),
+        blue: bits::word(s[14], s[15]),
     }
 }
 
@@ -163,7 +113,7 @@ fn lamp_of(s: &[u8]) -> Lamp
     let b = s[2];
     let pwm = words_in(s);
     Lamp {
-        address: Address(word(s[0], s[1])),
+        address: Address(bits::word(s[0], s[1])),
         state: state_in(b),
         direction: b / 16 % 2 == 1,
         flags: flags_in(b),
@@ -174,7 +124,7 @@ fn lamp_of(s: &[u8]) -> Lamp
             high: s[6],
         },
         setup: s[7],
-        groups: word(s[8], s[9]),
+        groups: bits::word(s[8], s[9]),
         pwm,
     }
 }
@@ -198,40 +148,7 @@ fn load_address(mem: &[u8], p: Place) -> Address
     let at = 6 + 16 * i;
     let high = mem[at];
     let low = mem[at + 1];
-    Address(word(high, low))
-}
-
-// The status of the lamp at a place.
-fn load_status(mem: &[u8], p: Place) -> Status
-    requires { ⌜ slotAt (p .0) + slotSize ≤ length (now mem) ⌝ }
-    ensures { λ r. ⌜ r ≡ statusAt (now (mem .entry)) (p .0) ⌝ }
-{
-    let i = p.0;
-    let at = 6 + 16 * i + 2;
-    let b = mem[at];
-    status_in(b)
-}
-
-// The group word of the lamp at a place.
-fn load_groups(mem: &[u8], p: Place) -> u16
-    requires { ⌜ slotAt (p .0) + slotSize ≤ length (now mem) ⌝ }
-    ensures { λ r. ⌜ r ≡ lampAt (now (mem .entry)) (p .0) .groups ⌝ }
-{
-    let i = p.0;
-    let at = 6 + 16 * i + 8;
-    let high = mem[at];
-    let low = mem[at + 1];
-    word(high, low)
-}
-
-// The temperature of the lamp at a place.
-fn load_temperature(mem: &[u8], p: Place) -> u8
-    requires { ⌜ slotAt (p .0) + slotSize ≤ length (now mem) ⌝ }
-    ensures { λ r. ⌜ r ≡ lampAt (now (mem .entry)) (p .0) .temperature ⌝ }
-{
-    let i = p.0;
-    let at = 6 + 16 * i + 3;
-    mem[at]
+    Address(bits::word(high, low))
 }
 
 // Copies `src` into the record, from the index `at` on.
@@ -252,22 +169,22 @@ fn slot_of(l: Lamp) -> [u8; 16]
     let t = l.thresholds;
     let w = l.pwm;
     [
-        high(a.0),
-        low(a.0),
+        bits::high(a.0),
+        bits::low(a.0),
         lamp::status_byte(state, l.direction, flags),
         l.temperature,
         t.cycle,
         t.low,
         t.high,
         l.setup,
-        high(l.groups),
-        low(l.groups),
-        high(w.red),
-        low(w.red),
-        high(w.green),
-        low(w.green),
-        high(w.blue),
-        low(w.blue),
+        bits::high(l.groups),
+        bits::low(l.groups),
+        bits::high(w.red),
+        bits::low(w.red),
+        bits::high(w.green),
+        bits::low(w.green),
+        bits::high(w.blue),
+        bits::low(w.blue),
     ]
 }
 
@@ -282,102 +199,25 @@ fn store_lamp(mem: &mut [u8], p: Place, l: Lamp)
     put_bytes(mem, at, &slot);
 }
 
-// Stores the status byte of the lamp at a place; its other bytes stay. Those below store its thresholds, its setup byte ..
-fn put_status(mem: &mut [u8], p: Place, state: State, direction: bool, flags: Flags)
-    requires { ⌜ slotAt (p .0) + slotSize ≤ length (now mem) ⌝ }
-    ensures { λ _. ⌜ now (mem .exit) ≡ withLamp (now (mem .entry)) (p .0) (withStatus state direction flags (lampAt (now (mem .entry)) (p .0))) ⌝ }
+// A lamp with another state.
+fn with_state(l: Lamp, state: State) -> Lamp
+    ensures { λ r. ⌜ r ≡ withState state l ⌝ }
 {
-    let i = p.0;
-    let at = 6 + 16 * i + 2;
-    let b = [lamp::status_byte(state, direction, flags)];
-    put_bytes(mem, at, &b);
-}
-
-fn put_thresholds(mem: &mut [u8], p: Place, t: Thresholds)
-    requires { ⌜ slotAt (p .0) + slotSize ≤ length (now mem) ⌝ }
-    ensures { λ _. ⌜ now (mem .exit) ≡ withLamp (now (mem .entry)) (p .0) (withThresholds t (lampAt (now (mem .entry)) (p .0))) ⌝ }
-{
-    let i = p.0;
-    let at = 6 + 16 * i + 4;
-    let b = [t.cycle, t.low, t.high];
-    put_bytes(mem, at, &b);
-}
-
-fn put_setup(mem: &mut [u8], p: Place, x: u8)
-    requires { ⌜ slotAt (p .0) + slotSize ≤ length (now mem) ⌝ }
-    ensures { λ _. ⌜ now (mem .exit) ≡ withLamp (now (mem .entry)) (p .0) (withSetup x (lampAt (now (mem .entry)) (p .0))) ⌝ }
-{
-    let i = p.0;
-    let at = 6 + 16 * i + 7;
-    let b = [x];
-    put_bytes(mem, at, &b);
-}
-
-fn put_groups(mem: &mut [u8], p: Place, w: u16)
-    requires { ⌜ slotAt (p .0) + slotSize ≤ length (now mem) ⌝ }
-    ensures { λ _. ⌜ now (mem .exit) ≡ withLamp (now (mem .entry)) (p .0) (withGroups w (lampAt (now (mem .entry)) (p .0))) ⌝ }
-{
-    let i = p.0;
-    let at = 6 + 16 * i + 8;
-    let b = [high(w), low(w)];
-    put_bytes(mem, at, &b);
-}
-
-fn put_pwm(mem: &mut [u8], p: Place, w: Words)
-    requires { ⌜ slotAt (p .0) + slotSize ≤ length (now mem) ⌝ }
-    ensures { λ _. ⌜ now (mem .exit) ≡ withLamp (now (mem .entry)) (p .0) (withPwm w (lampAt (now (mem .entry)) (p .0))) ⌝ }
-{
-    let i = p.0;
-    let at = 6 + 16 * i + 10;
-    let b = [
-        high(w.red),
-        low(w.red),
-        high(w.green),
-        low(w.green),
-        high(w.blue),
-        low(w.blue),
-    ];
-    put_bytes(mem, at, &b);
-}
-
-// RESET at a place.
-fn reset_one(mem: &mut [u8], p: Place, d: Defaults)
-    requires { ⌜ slotAt (p .0) + slotSize ≤ length (now mem) ⌝ }
-    ensures { λ _. ⌜ now (mem .exit) ≡ withLamp (now (mem .entry)) (p .0) (reset d (lampAt (now (mem .entry)) (p .0))) ⌝ }
-{
-    let t = load_temperature(mem, p);
-    store_lamp(mem, p, lamp::blank_lamp(d, t));
-}
-
-// Clears the flags at a place.
-fn clear_one(mem: &mut [u8], p: Place)
-    requires { ⌜ slotAt (p .0) + slotSize ≤ length (now mem) ⌝ }
-    ensures { λ _. ⌜ now (mem .exit) ≡ withLamp (now (mem .entry)) (p .0) (cleared (lampAt (now (mem .entry)) (p .0))) ⌝ }
-{
-    let s = load_status(mem, p);
-    let state = s.state;
-    put_status(mem, p, state, s.direction, lamp::no_flags());
-}
-
-// Sets CE at a place.
-fn mark_one(mem: &mut [u8], p: Place)
-    requires { ⌜ slotAt (p .0) + slotSize ≤ length (now mem) ⌝ }
-    ensures { λ _. ⌜ now (mem .exit) ≡ withLamp (now (mem .entry)) (p .0) (withCE (lampAt (now (mem .entry)) (p .0))) ⌝ }
-{
-    let s = load_status(mem, p);
-    let state = s.state;
-    let flags = s.flags;
-    put_status(mem, p, state, s.direction, lamp::marked_flags(flags));
-}
-
-// Sets the state at a place.
-fn go_one(mem: &mut [u8], p: Place, state: State)
-    requires { ⌜ slotAt (p .0) + slotSize ≤ length (now mem) ⌝ }
-    ensures { λ _. ⌜ now (mem .exit) ≡ withLamp (now (mem .entry)) (p .0) (withState state (lampAt (now (mem .entry)) (p .0))) ⌝ }
-{
-    let s = load_status(mem, p);
-    let flags = s.flags;
-    put_status(mem, p, state, s.direction, flags);
+    let address = l.address;
+    let flags = l.flags;
+    let thresholds = l.thresholds;
+    let pwm = l.pwm;
+    Lamp {
+        address,
+        state,
+        direction: l.direction,
+        flags,
+        temperature: l.temperature,
+        thresholds,
+        setup: l.setup,
+        groups: l.groups,
+        pwm,
+    }
 }
 
 // Changes the lamp at a place.
@@ -385,16 +225,31 @@ fn alter(mem: &mut [u8], p: Place, d: Defaults, change: Change)
     requires { ⌜ slotAt (p .0) + slotSize ≤ length (now mem) ⌝ }
     ensures { λ _. ⌜ now (mem .exit) ≡ withLamp (now (mem .entry)) (p .0) (altered d change (lampAt (now (mem .entry)) (p .0))) ⌝ }
 {
+    let mut l = load_lamp(mem, p);
     match change {
         Change::Nothing => {}
-        Change::Reset => reset_one(mem, p, d),
-        Change::ClearFlags => clear_one(mem, p),
-        Change::MarkError => mark_one(mem, p),
-        Change::Go(s) => go_one(mem, p, s),
-        Change::Groups(w) => put_groups(mem, p, w),
-        Change::Overtemperature(t) => put_thresholds(mem, p, t),
-        Change::Setup(x) => put_setup(mem, p, x),
-        Change::Pwm(w) => put_pwm(mem, p, w),
+        Change::Reset => store_lamp(mem, p, lamp::blank_lamp(d, l.temperature)),
+        Change::ClearFlags => {
+            l.flags = lamp::no_flags();
+            store_lamp(mem, p, l);
+        }
+        Change::Go(s) => store_lamp(mem, p, with_state(l, s)),
+        Change::Groups(w) => {
+            l.groups = w;
+            store_lamp(mem, p, l);
+        }
+        Change::Overtemperature(t) => {
+            l.thresholds = t;
+            store_lamp(mem, p, l);
+        }
+        Change::Setup(x) => {
+            l.setup = x;
+            store_lamp(mem, p, l);
+        }
+        Change::Pwm(w) => {
+            l.pwm = w;
+            store_lamp(mem, p, l);
+        }
     }
 }
 
@@ -406,24 +261,25 @@ fn is_member(g: u8, groups: u16) -> bool
     (groups >> g) % 2 == 1
 }
 
-// Whether an order reaches a lamp with a group word.
-fn is_reached(reach: Reach, groups: u16) -> bool
+// Whether an order reaches a lamp.
+fn is_reached(reach: Reach, l: Lamp) -> bool
     requires { ⌜ reachFits reach ≡ true ⌝ }
-    ensures { λ r. ⌜ ((l : LampType) → l .groups ≡ groups → r ≡ reached reach l) ⌝ }
+    ensures { λ r. ⌜ r ≡ reached reach l ⌝ }
 {
     match reach {
         Reach::Everyone => true,
-        Reach::Members(g) => is_member(g, groups),
+        Reach::Members(g) => is_member(g, l.groups),
     }
 }
 
-// Whether a lamp with a state and a group word heeds an order.
-fn is_heeded(order: Order, state: State, groups: u16) -> bool
+// Whether a lamp heeds an order.
+fn is_heeded(order: Order, l: Lamp) -> bool
     requires { ⌜ reachFits (order .reach) ≡ true ⌝ }
-    ensures { λ r. ⌜ ((l : LampType) → l .state ≡ state → l .groups ≡ groups → r ≡ heeded order l) ⌝ }
+    ensures { λ r. ⌜ r ≡ heeded order l ⌝ }
 {
     let reach = order.reach;
-    and(is_reached(reach, groups), lamp::heeds(order.always, state))
+    let state = l.state;
+    bits::and(is_reached(reach, l), lamp::heeds(order.always, state))
 }
 
 // Gives an order to the lamp at a place.
@@ -431,22 +287,134 @@ fn order_one(mem: &mut [u8], p: Place, d: Defaults, order: Order)
     requires { ⌜ (slotAt (p .0) + slotSize ≤ length (now mem)) × (reachFits (order .reach) ≡ true) ⌝ }
     ensures { λ _. ⌜ now (mem .exit) ≡ withLamp (now (mem .entry)) (p .0) (ordered d order (lampAt (now (mem .entry)) (p .0))) ⌝ }
 {
-    let s = load_status(mem, p);
-    let state = s.state;
-    if is_heeded(order, state, load_groups(mem, p)) {
+    if is_heeded(order, load_lamp(mem, p)) {
         let change = order.change;
         alter(mem, p, d, change);
     }
 }
 
-// Gives an order to the lamps from one place up to another. One loop for one lamp, a group and everyone.
-fn order_lamps(mem: &mut [u8], from: usize, to: usize, d: Defaults, order: Order)
-    requires { ⌜ (from ≤ to) × (slotAt to ≤ length (now mem)) × (reachFits (order .reach) ≡ true) ⌝ }
-    ensures { λ _. ⌜ now (mem .exit) ≡ sweep (λ (p : ℕ) (l : LampType). ordered d order l) from (to - from) (now (mem .entry)) ⌝ }
+// Gives an order to each lamp.
+fn order_lamps(mem: &mut [u8], count: usize, d: Defaults, order: Order)
+    requires { ⌜ (slotAt count ≤ length (now mem)) × (reachFits (order .reach) ≡ true) ⌝ }
+    ensures { λ _. ⌜ now (mem .exit) ≡ sweep (λ (p : ℕ) (l : LampType). ordered d order l) 0 count (now (mem .entry)) ⌝ }
 {
-    let mut i = from;
-    while i < to {
+    let mut i: usize = 0;
+    while i < count {
         order_one(mem, Place(i), d, order);
+        i += 1;
+    }
+}
+
+// The state of a lamp that was told to go to a state.
+fn state_after(always: bool, state: State, s: State) -> State
+    ensures { λ r. ⌜ r ≡ cond (not (uninitialized state) || always) s state ⌝ }
+{
+    if lamp::heeds(always, state) {
+        return s;
+    }
+    state
+}
+
+// Sets the state at a place, if the lamp heeds that. It stores either way: a loop of stores without a branch is faster.
+fn go_one(mem: &mut [u8], p: Place, always: bool, s: State)
+    requires { ⌜ slotAt (p .0) + slotSize ≤ length (now mem) ⌝ }
+    ensures { λ _. ⌜ now (mem .exit) ≡ withLamp (now (mem .entry)) (p .0) (ifHeeds always (withState s) (lampAt (now (mem .entry)) (p .0))) ⌝ }
+{
+    let l = load_lamp(mem, p);
+    let state = l.state;
+    store_lamp(mem, p, with_state(l, state_after(always, state, s)));
+}
+
+// Sets the state of each lamp that heeds that.
+fn go_lamps(mem: &mut [u8], count: usize, always: bool, s: State)
+    requires { ⌜ slotAt count ≤ length (now mem) ⌝ }
+    ensures { λ _. ⌜ now (mem .exit) ≡ sweep (λ (p : ℕ) (l : LampType). ifHeeds always (withState s) l) 0 count (now (mem .entry)) ⌝ }
+{
+    let mut i: usize = 0;
+    while i < count {
+        go_one(mem, Place(i), always, s);
+        i += 1;
+    }
+}
+
+// Sets the PWM words at a place, if the lamp heeds that.
+fn pwm_one(mem: &mut [u8], p: Place, always: bool, w: Words)
+    requires { ⌜ slotAt (p .0) + slotSize ≤ length (now mem) ⌝ }
+    ensures { λ _. ⌜ now (mem .exit) ≡ withLamp (now (mem .entry)) (p .0) (ifHeeds always (withPwm w) (lampAt (now (mem .entry)) (p .0))) ⌝ }
+{
+    let mut l = load_lamp(mem, p);
+    let state = l.state;
+    if lamp::heeds(always, state) {
+        l.pwm = w;
+        store_lamp(mem, p, l);
+    }
+}
+
+// Sets the PWM words of each lamp that heeds that.
+fn pwm_lamps(mem: &mut [u8], count: usize, always: bool, w: Words)
+    requires { ⌜ slotAt count ≤ length (now mem) ⌝ }
+    ensures { λ _. ⌜ now (mem .exit) ≡ sweep (λ (p : ℕ) (l : LampType). ifHeeds always (withPwm w) l) 0 count (now (mem .entry)) ⌝ }
+{
+    let mut i: usize = 0;
+    while i < count {
+        pwm_one(mem, Place(i), always, w);
+        i += 1;
+    }
+}
+
+// Gives an order to everyone. The two that a board sends most, GO and SETPWM, have loops that decide nothing anew at each lamp.
+fn order_everyone(mem: &mut [u8], count: usize, d: Defaults, change: Change, always: bool)
+    requires { ⌜ slotAt count ≤ length (now mem) ⌝ }
+    ensures { λ _. ⌜ now (mem .exit) ≡ sweep (λ (p : ℕ) (l : LampType). ifHeeds always (altered d change) l) 0 count (now (mem .entry)) ⌝ }
+{
+    match change {
+        Change::Go(s) => go_lamps(mem, count, always, s),
+        Change::Pwm(w) => pwm_lamps(mem, count, always, w),
+        _ => {
+            let order = Order {
+                change,
+                always,
+                reach: Reach::Everyone,
+            };
+            order_lamps(mem, count, d, order);
+        }
+    }
+}
+
+// Gives an order to the lamps that it reaches.
+fn order_all(mem: &mut [u8], count: usize, d: Defaults, order: Order)
+    requires { ⌜ (slotAt count ≤ length (now mem)) × (reachFits (order .reach) ≡ true) ⌝ }
+    ensures { λ _. ⌜ now (mem .exit) ≡ sweep (λ (p : ℕ) (l : LampType). ordered d order l) 0 count (now (mem .entry)) ⌝ }
+{
+    let reach = order.reach;
+    let change = order.change;
+    match reach {
+        Reach::Everyone => order_everyone(mem, count, d, change, order.always),
+        Reach::Members(_) => order_lamps(mem, count, d, order),
+    }
+}
+
+// Sets CE at a place, or leaves the lamp.
+fn mark_one(mem: &mut [u8], p: Place, on: bool)
+    requires { ⌜ slotAt (p .0) + slotSize ≤ length (now mem) ⌝ }
+    ensures { λ _. ⌜ now (mem .exit) ≡ withLamp (now (mem .entry)) (p .0) (cond on (withCE (lampAt (now (mem .entry)) (p .0))) (lampAt (now (mem .entry)) (p .0))) ⌝ }
+{
+    if on {
+        let mut l = load_lamp(mem, p);
+        let flags = l.flags;
+        l.flags = lamp::marked_flags(flags);
+        store_lamp(mem, p, l);
+    }
+}
+
+// Sets CE on each lamp, or leaves them.
+fn mark_lamps(mem: &mut [u8], count: usize, on: bool)
+    requires { ⌜ slotAt count ≤ length (now mem) ⌝ }
+    ensures { λ _. ⌜ now (mem .exit) ≡ sweep (λ (p : ℕ) (l : LampType). cond on (withCE l) l) 0 count (now (mem .entry)) ⌝ }
+{
+    let mut i: usize = 0;
+    while i < count {
+        mark_one(mem, Place(i), on);
         i += 1;
     }
 }
@@ -456,17 +424,12 @@ fn number_one(mem: &mut [u8], p: Place, n: u8, first: Address)
     requires { ⌜ (slotAt (p .0) + slotSize ≤ length (now mem)) × (first .0 + p .0 ≤ 0x3EF) ⌝ }
     ensures { λ _. ⌜ now (mem .exit) ≡ withLamp (now (mem .entry)) (p .0) (numberedAs n (first .0 + p .0) (lampAt (now (mem .entry)) (p .0))) ⌝ }
 {
-    let l = load_lamp(mem, p);
-    let flags = l.flags;
     let i = p.0;
-    let at = 6 + 16 * i;
-    let a = first.0 + i as u16;
-    let b = [
-        high(a),
-        low(a),
-        lamp::status_byte(State::Sleep, n == 0x03, flags),
-    ];
-    put_bytes(mem, at, &b);
+    let a = Address(first.0 + i as u16);
+    let mut l = with_state(load_lamp(mem, p), State::Sleep);
+    l.address = a;
+    l.direction = n == 0x03;
+    store_lamp(mem, p, l);
 }
 
 // Numbers all lamps.
@@ -493,16 +456,27 @@ fn fill(mem: &mut [u8], count: usize, l: Lamp)
     }
 }
 
+// Whether the lamp at a place has an address. Both are compared low byte on top, as the machine reads the two bytes at once.
+fn has_address(mem: &[u8], p: Place, a: Address) -> bool
+    requires { ⌜ slotAt (p .0) + slotSize ≤ length (now mem) ⌝ }
+    ensures { λ r. ⌜ r ≡ eqb (lampAt (now (mem .entry)) (p .0) .address .0) (a .0) ⌝ }
+{
+    let i = p.0;
+    let n = a.0;
+    let at = 6 + 16 * i;
+    let high = mem[at];
+    let low = mem[at + 1];
+    bits::word(low, high) == bits::word(bits::low(n), bits::high(n))
+}
+
 // The lookup: the first lamp with an address.
 fn find(mem: &[u8], count: usize, a: Address) -> Found
     requires { ⌜ slotAt count ≤ length (now mem) ⌝ }
     ensures { λ r. ⌜ r ≡ placeFrom 0 (a .0) (lampsIn count (now (mem .entry))) ⌝ }
 {
-    let want = a.0;
     let mut i: usize = 0;
     while i < count {
-        let got = load_address(mem, Place(i));
-        if got.0 == want {
+        if has_address(mem, Place(i), a) {
             return Found::At(Place(i));
         }
         i += 1;
@@ -515,7 +489,7 @@ fn address_right(a: Address) -> bool
     ensures { λ r. ⌜ r ≡ addressRight (a .0) ⌝ }
 {
     let n = a.0;
-    or(n == 0x3FF, and(1 <= n, n <= 0x3EF))
+    bits::or(n == 0x3FF, bits::and(1 <= n, n <= 0x3EF))
 }
 
 // Whether each lamp's address may be stored.
@@ -527,7 +501,7 @@ fn addresses_right(mem: &[u8], count: usize) -> bool
     let mut i: usize = 0;
     while i < count {
         let a = load_address(mem, Place(i));
-        right = and(right, address_right(a));
+        right = bits::and(right, address_right(a));
         i += 1;
     }
     right
@@ -542,7 +516,7 @@ fn any_unaddressed(mem: &[u8], count: usize) -> bool
     let mut i: usize = 0;
     while i < count {
         let a = load_address(mem, Place(i));
-        any = or(any, a.0 == 0x3FF);
+        any = bits::or(any, a.0 == 0x3FF);
         i += 1;
     }
     any
@@ -555,7 +529,7 @@ fn count_of(mem: &[u8]) -> usize
 {
     let high = mem[0];
     let low = mem[1];
-    word(high, low) as usize
+    bits::word(high, low) as usize
 }
 
 // The defaults in a header.
@@ -600,7 +574,7 @@ fn put_header(mem: &mut [u8], count: usize, d: Defaults)
 {
     let n = count as u16;
     let t = d.thresholds;
-    let b = [high(n), low(n), d.setup, t.cycle, t.low, t.high];
+    let b = [bits::high(n), bits::low(n), d.setup, t.cycle, t.low, t.high];
     put_bytes(mem, 0, &b);
 }
 
@@ -641,13 +615,11 @@ fn sense_one(mem: &mut [u8], p: Place, temperature: u8, faults: u8)
     requires { ⌜ slotAt (p .0) + slotSize ≤ length (now mem) ⌝ }
     ensures { λ _. ⌜ now (mem .exit) ≡ withLamp (now (mem .entry)) (p .0) (sensed temperature faults (lampAt (now (mem .entry)) (p .0))) ⌝ }
 {
-    let l = load_lamp(mem, p);
-    let flags = lamp::faulted_flags(faults, l.flags);
-    let state = l.state;
-    let i = p.0;
-    let at = 6 + 16 * i + 2;
-    let b = [lamp::status_byte(state, l.direction, flags), temperature];
-    put_bytes(mem, at, &b);
+    let mut l = load_lamp(mem, p);
+    let flags = l.flags;
+    l.temperature = temperature;
+    l.flags = lamp::faulted_flags(faults, flags);
+    store_lamp(mem, p, l);
 }
 
 // A sensor report for a place. Refusals 11, 13, 10.
@@ -713,7 +685,7 @@ fn spread(mem: &mut [u8], command: Command, n: u8, reach: Reach)
     let count = count_of(mem);
     let d = defaults_of(mem);
     let order = order_of(command, n, reach);
-    order_lamps(mem, 0, count, d, order);
+    order_all(mem, count, d, order);
 }
 
 // Sends a command that is no init to one lamp.
@@ -728,12 +700,10 @@ fn unicast(mem: &mut [u8], command: Command, n: u8, a: Address, room: &mut [u8])
     let Found::At(p) = found else {
         return Delivered::Done(0);
     };
-    let l = load_lamp(mem, p);
+    let told = answer(a, n, lamp::answer_bytes(n, load_lamp(mem, p)), room);
     let d = defaults_of(mem);
-    let order = order_of(command, n, Reach::Everyone);
-    let i = p.0;
-    order_lamps(mem, i, i + 1, d, order);
-    answer(a, n, lamp::answer_bytes(n, l), room)
+    order_one(mem, p, d, order_of(command, n, Reach::Everyone));
+    told
 }
 
 // The last lamp answers an init: temperature and status, with an address.
@@ -773,38 +743,15 @@ fn init_all(mem: &mut [u8], n: u8, room: &mut [u8]) -> Delivered
     if any_unaddressed(mem, count) {
         return Delivered::Refused(Refusal::CastNotAllowed);
     }
-    let d = defaults_of(mem);
-    order_lamps(mem, 0, count, d, init_order(n));
+    mark_lamps(mem, count, n == 0x02);
     answer_last(mem, count, Address(0), n, room)
-}
-
-// The order that an init at 000 gives each lamp: INITBIDIR sets CE, INITLOOP changes nothing.
-fn init_order(n: u8) -> Order
-    ensures { λ r. ⌜ ((d : DefaultsType) (l : LampType) → ordered d r l ≡ cond (eqb n 0x02) (withCE l) l) ⌝ }
-    ensures { λ r. ⌜ reachFits (r .reach) ≡ true ⌝ }
-{
-    if n == 0x02 {
-        return always_all(Change::MarkError);
-    }
-    always_all(Change::Nothing)
-}
-
-// A change for each lamp in every state.
-fn always_all(change: Change) -> Order
-    ensures { λ r. ⌜ r ≡ record { change = change; always = true; reach = Reach.Everyone } ⌝ }
-{
-    Order {
-        change,
-        always: true,
-        reach: Reach::Everyone,
-    }
 }
 
 // Whether a number is an init's.
 fn is_init(n: u8) -> bool
     ensures { λ r. ⌜ r ≡ isInit n ⌝ }
 {
-    or(n == 0x02, n == 0x03)
+    bits::or(n == 0x02, n == 0x03)
 }
 
 // An accepted init. Refusals 7 and 12.
@@ -865,8 +812,7 @@ fn refuse(mem: &mut [u8], e: Refusal) -> Delivered
     ensures memory { λ r. ⌜ now (mem .exit) ≡ heldAfter (now (mem .entry)) (refusedIn (now (mem .entry)) (numberOf e)) ⌝ }
 {
     if telegram::refusal_number(e) == 5 {
-        let d = defaults_of(mem);
-        order_lamps(mem, 0, 1, d, always_all(Change::MarkError));
+        mark_one(mem, Place(0), true);
     }
     Delivered::Refused(e)
 }

@@ -205,13 +205,6 @@ fn payload_fits(row: Row, size: usize) -> bool
     size == row.payload
 }
 
-// A word, high byte first.
-fn word(high: u8, low: u8) -> u16
-    ensures { λ r. ⌜ r ≡ high * 256 + low ⌝ }
-{
-    high as u16 * 256 + low as u16
-}
-
 // The word at an index of a payload.
 fn word_at(p: &[u8], i: usize) -> u16
     requires { ⌜ i + 1 < length (now p) ⌝ }
@@ -219,7 +212,7 @@ fn word_at(p: &[u8], i: usize) -> u16
 {
     let high = p[i];
     let low = p[i + 1];
-    word(high, low)
+    bits::word(high, low)
 }
 
 // A PWM word taken apart.
@@ -323,20 +316,6 @@ pub fn dissect(s: &[u8]) -> Dissection
     name_command(s, t)
 }
 
-// Whether both hold.
-fn and(a: bool, b: bool) -> bool
-    ensures { λ r. ⌜ r ≡ (a && b) ⌝ }
-{
-    if a { b } else { false }
-}
-
-// Whether one of two holds.
-fn or(a: bool, b: bool) -> bool
-    ensures { λ r. ⌜ r ≡ (a || b) ⌝ }
-{
-    if a { true } else { b }
-}
-
 // A message whose bytes are its fields, of no byte to three.
 fn bare_parts(number: u8) -> Parts
     ensures { λ r. ⌜ r ≡ partsBy octets (numbered number []) ⌝ }
@@ -431,7 +410,7 @@ pub fn pwm_word(x: Pwm) -> u16
 fn duties_fit(r: u16, g: u16, b: u16) -> bool
     ensures { λ x. ⌜ x ≡ (leb r 32767 && (leb g 32767 && leb b 32767)) ⌝ }
 {
-    and(r <= 32767, and(g <= 32767, b <= 32767))
+    bits::and(r <= 32767, bits::and(g <= 32767, b <= 32767))
 }
 
 // A message that holds three PWM words.
@@ -503,7 +482,7 @@ fn cast_in_range(cast: Cast) -> bool
 {
     match cast {
         Cast::Everyone => true,
-        Cast::One(a) => and(1 <= a.0, a.0 <= 0x3EF),
+        Cast::One(a) => bits::and(1 <= a.0, a.0 <= 0x3EF),
         Cast::Group(g) => g <= 14,
     }
 }
@@ -583,7 +562,7 @@ fn answer_address(n: u8, a: u16) -> bool
     ensures { λ r. ⌜ r ≡ answerAddress n a ⌝ }
 {
     if a == 0 {
-        return or(n == 0x02, n == 0x03);
+        return bits::or(n == 0x02, n == 0x03);
     }
     a <= 0x3EF
 }

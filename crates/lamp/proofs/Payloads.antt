@@ -1,7 +1,7 @@
 -- The bytes of an answer as the code hands them over, and how many they are.
 -- Assumes nothing.
 use mathlib.Core.Path.{_≡_, _∙_, refl, ap}
-use mathlib.Core.Bool.{Bool, true, false, cond}
+use mathlib.Core.Bool.{true}
 use mathlib.Core.List.{List}
 use Prim.Native.Nat.{ℕ, _≤_}
 use native.Mathlib.Omega.{arith}
@@ -11,6 +11,7 @@ use lib.Seq.{take-at}
 use Rattle.telegram.specs.Telegram.{listed}
 use Rattle.rules.specs.declared.Lamp.{Lamp}
 use Rattle.rules.specs.Lamp.{obeys, told, answered}
+use Rattle.rules.proofs.Walks.{either}
 use Rattle.lamp.specs.declared.Payload.{Payload}
 use Rattle.lamp.specs.Reactions.{padded}
 
@@ -28,29 +29,19 @@ handed p x e =
       within = rw e (simp length-append (omega arith));
     }
 
--- Bytes that a telegram may carry.
-record Carried (p : List ℕ) : Type 0 where
-  count : listed (length p) ≡ true
-
--- Where two answers can be carried, so can the one that a test picks.
-either : {x y : List ℕ} (b : Bool) → Carried x → Carried y → Carried (cond b x y)
-either true h k = h
-either false h k = k
-
 -- An answer has as many bytes as a telegram may carry.
 pub answered-listed : (n : ℕ) (l : Lamp) → listed (length (answered n l)) ≡ true
 unfolding answered told
 answered-listed n l =
-    let c : Carried (answered n l) =
-    either (obeys n (l .state))
-    (either (eqb n 0x07) (record { count = refl })
-    (either (eqb n 0x0C) (record { count = refl })
-    (either (eqb n 0x40) (record { count = refl })
-    (either (eqb n 0x42) (record { count = refl })
-    (either (eqb n 0x48) (record { count = refl })
-    (either (eqb n 0x4A) (record { count = refl })
-    (either (eqb n 0x4C) (record { count = refl })
-    (either (eqb n 0x4E) (record { count = refl })
-    (record { count = refl })))))))))
-    (record { count = refl }) in
-    c .count
+    let P : List ℕ → Type 0 = λ (p : List ℕ). listed (length p) ≡ true in
+    either P (obeys n (l .state))
+    (either P (eqb n 0x07) refl
+    (either P (eqb n 0x0C) refl
+    (either P (eqb n 0x40) refl
+    (either P (eqb n 0x42) refl
+    (either P (eqb n 0x48) refl
+    (either P (eqb n 0x4A) refl
+    (either P (eqb n 0x4C) refl
+    (either P (eqb n 0x4E) refl
+    refl))))))))
+    refl

@@ -5,9 +5,9 @@ use mathlib.Core.List.{List, _++_}
 use lib.ListN.{length, replicate}
 use Rattle.rules.specs.declared.Defaults.{Defaults}
 use Rattle.rules.specs.declared.Lamp.{Lamp}
-use Rattle.rules.specs.Lamp.{reset, cleared, withCE, withState, withGroups, withThresholds, withSetup, withPwm}
+use Rattle.rules.specs.Lamp.{reset, cleared, withState, withGroups, withThresholds, withSetup, withPwm}
 use Rattle.lamp.specs.declared.Change.{Change}
-use Rattle.lamp.specs.declared.Change.the-variants.{Nothing, Reset, ClearFlags, MarkError, Go, Groups, Overtemperature, Setup, Pwm}
+use Rattle.lamp.specs.declared.Change.the-variants.{Nothing, Reset, ClearFlags, Go, Groups, Overtemperature, Setup, Pwm}
 use Rattle.lamp.specs.declared.Payload.{Payload}
 
 -- A lamp after a change.
@@ -15,7 +15,6 @@ abbrev pub altered : Defaults → Change → Lamp → Lamp
 altered d Nothing l = l
 altered d Reset l = reset d l
 altered d ClearFlags l = cleared l
-altered d MarkError l = withCE l
 altered d (Go s) l = withState s l
 altered d (Groups w) l = withGroups w l
 altered d (Overtemperature t) l = withThresholds t l

@@ -19,12 +19,11 @@ ghost use Rattle.rules.specs.declared.Lamp.{Lamp as LampType};
 ghost use Rattle.rules.specs.Lamp.{bit, stateNumber, statusByte, statusOf, blank, noFlags, marked, faulted, uninitialized, changed, told, answered, report, pwmWords};
 ghost use Rattle.lamp.specs.Reactions.{altered, padded};
 
-// What a command does to a lamp that obeys it, or a delivery to a lamp that it marks.
+// What a command does to a lamp that obeys it.
 pub enum Change {
     Nothing,
     Reset,
     ClearFlags,
-    MarkError,
     Go(State),
     Groups(u16),
     Overtemperature(Thresholds),
@@ -36,12 +35,6 @@ pub enum Change {
 pub struct Payload {
     pub bytes: [u8; 6],
     pub size: usize,
-}
-
-fn or(a: bool, b: bool) -> bool
-    ensures { λ r. ⌜ r ≡ (a || b) ⌝ }
-{
-    if a { true } else { b }
 }
 
 // A bit as a number.
@@ -106,9 +99,9 @@ pub fn marked_flags(f: Flags) -> Flags
 pub fn faulted_flags(faults: u8, f: Flags) -> Flags
     ensures { λ r. ⌜ r ≡ faulted faults f ⌝ }
 {
-    let los = or(f.los, faults / 4 % 2 == 1);
-    let ot = or(f.ot, faults / 2 % 2 == 1);
-    let uv = or(f.uv, faults % 2 == 1);
+    let los = bits::or(f.los, faults / 4 % 2 == 1);
+    let ot = bits::or(f.ot, faults / 2 % 2 == 1);
+    let uv = bits::or(f.uv, faults % 2 == 1);
     Flags {
         otpcrc: f.otpcrc,
         ce: f.ce,
@@ -144,7 +137,7 @@ pub fn blank_lamp(d: Defaults, temperature: u8) -> Lamp
 pub fn heeds(always: bool, s: State) -> bool
     ensures { λ r. ⌜ r ≡ (not (uninitialized s) || always) ⌝ }
 {
-    or(!is_uninitialized(s), always)
+    bits::or(!is_uninitialized(s), always)
 }
 
 fn is_uninitialized(s: State) -> bool

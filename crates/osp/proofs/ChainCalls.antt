@@ -1,17 +1,17 @@
 -- What the calls on a chain return.
 -- Assumes nothing.
-use mathlib.Core.Path.{_≡_, _∙_, refl, sym}
+use mathlib.Core.Path.{_≡_, _∙_, sym}
 use mathlib.Core.List.{List, [], _∷_, _++_}
 use Prim.Native.Nat.{ℕ, _/_, _%_, _<_}
 use native.Mathlib.Omega.{arith}
 use lib.ListN.{length}
-use Rattle.telegram.specs.Numbers.{Outcome, refused, done, counted, fitted, leaves}
+use Rattle.telegram.specs.Numbers.{Outcome, refused, done, counted}
 use Rattle.telegram.proofs.Outcomes.{never, done-one}
 use Rattle.rules.specs.declared.Lamp.{Lamp}
 use Rattle.rules.specs.Chain.{Chain}
-use Rattle.chain.specs.Memory.{silent, lampRead}
+use Rattle.chain.specs.Memory.{silent}
 use Rattle.chain.proofs.Lengths.{Short}
-use Rattle.osp.specs.Interface.{returned, lampHead, lampBytes, ospLamp}
+use Rattle.osp.specs.Interface.{lampHead, lampBytes}
 
 -- A call without an answer counts no bytes ..
 pub silent-short : (o : Outcome Chain) {d : Outcome ℕ} → d ≡ silent o → (n : ℕ) → d ≡ done n → n < 65536
@@ -28,19 +28,6 @@ counted-short o {d} s e n h = go o s (sym e ∙ h)
     go : (q : Outcome (List ℕ)) → Short q → counted q ≡ done n → n < 65536
     go (refused k) t u = absurd (never u)
     go (done bs) t u = let z : length bs ≡ n = done-one u in omega arith
-
--- A lamp that was read, and one that was not.
-module _ (mem : List ℕ) (p : ℕ) (room : List ℕ) where
-  pub lamp-read : {r : ℕ} {left : List ℕ} {l : Lamp} → lampRead mem p ≡ done l → r ≡ returned (fitted (length room) (lampBytes l))
-      → left ≡ leaves (fitted (length room) (lampBytes l)) room
-      → (r ≡ returned (ospLamp mem p (length room))) × (left ≡ leaves (ospLamp mem p (length room)) room)
-  unfolding ospLamp
-  lamp-read e a b = rw e (a, b)
-
-  pub lamp-unread : {n r : ℕ} → lampRead mem p ≡ refused n → r ≡ n
-      → (r ≡ returned (ospLamp mem p (length room))) × (room ≡ leaves (ospLamp mem p (length room)) room)
-  unfolding ospLamp
-  lamp-unread e a = rw e (a, refl)
 
 -- The bytes of a lamp, from those before its PWM bytes and these.
 pub lamp-given : (l : Lamp) {head : List ℕ} {a b c d e f : ℕ} → head ≡ lampHead l

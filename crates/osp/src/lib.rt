@@ -73,20 +73,6 @@ fn give(head: &[u8], payload: &[u8], out: &mut [u8]) -> u32
     n as u32 * 256
 }
 
-// The high byte of a number.
-fn high(n: u16) -> u8
-    ensures { λ r. ⌜ r ≡ n / 256 ⌝ }
-{
-    (n / 256) as u8
-}
-
-// The low byte of a number.
-fn low(n: u16) -> u8
-    ensures { λ r. ⌜ r ≡ n % 256 ⌝ }
-{
-    (n % 256) as u8
-}
-
 // A payload size, which is at most 8, as a byte.
 fn size_byte(n: usize) -> u8
     requires { ⌜ n ≤ 8 ⌝ }
@@ -112,7 +98,7 @@ fn give_telegram(s: &[u8], t: Telegram, out: &mut [u8]) -> u32
     let address = t.address;
     let a = address.0;
     let size = t.size;
-    let head = [high(a), low(a), t.command, size_byte(size)];
+    let head = [bits::high(a), bits::low(a), t.command, size_byte(size)];
     let end = 3 + size;
     give(&head, &s[3..end], out)
 }
@@ -131,8 +117,8 @@ fn give_command(d: Dissected, out: &mut [u8]) -> u32
     let head = [
         parts.number,
         kind_of(cast),
-        high(value),
-        low(value),
+        bits::high(value),
+        bits::low(value),
         size_byte(size),
     ];
     give(&head, &bytes[..size], out)
@@ -149,7 +135,7 @@ fn give_answer(d: Answered, out: &mut [u8]) -> u32
     let a = address.0;
     let size = parts.size;
     let bytes = parts.bytes;
-    let head = [parts.number, high(a), low(a), size_byte(size)];
+    let head = [parts.number, bits::high(a), bits::low(a), size_byte(size)];
     give(&head, &bytes[..size], out)
 }
 
@@ -395,12 +381,12 @@ fn give_lamp(l: Lamp, out: &mut [u8]) -> u32
     let head = lamp_head(l);
     let w = l.pwm;
     let pwm = [
-        high(w.red),
-        low(w.red),
-        high(w.green),
-        low(w.green),
-        high(w.blue),
-        low(w.blue),
+        bits::high(w.red),
+        bits::low(w.red),
+        bits::high(w.green),
+        bits::low(w.green),
+        bits::high(w.blue),
+        bits::low(w.blue),
     ];
     give(&head, &pwm, out)
 }
@@ -414,8 +400,8 @@ fn lamp_head(l: Lamp) -> [u8; 12]
     let flags = l.flags;
     let t = l.thresholds;
     [
-        high(a.0),
-        low(a.0),
+        bits::high(a.0),
+        bits::low(a.0),
         lamp::state_number(state),
         lamp::bit_number(l.direction),
         lamp::status_byte(State::Uninitialized, false, flags),
@@ -424,8 +410,8 @@ fn lamp_head(l: Lamp) -> [u8; 12]
         t.low,
         t.high,
         l.setup,
-        high(l.groups),
-        low(l.groups),
+        bits::high(l.groups),
+        bits::low(l.groups),
     ]
 }
 

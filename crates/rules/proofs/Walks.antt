@@ -56,8 +56,8 @@ walk-each P visit n keeps p (x ∷ xs) l h =
     stepped-each P (visit p x) p xs (walk visit (suc p) xs) (keeps p x (omega arith) (h .0)) (h .1)
     (walk-each P visit n keeps (suc p) xs (omega arith) (h .1))
 
--- What holds of two lamps holds of the one that a test picks.
-pub either : {x y : Lamp} (P : Lamp → Type 0) (b : Bool) → P x → P y → P (cond b x y)
+-- What holds of both holds of the one that a test picks.
+pub either : {A : Type 0} {x y : A} (P : A → Type 0) (b : Bool) → P x → P y → P (cond b x y)
 either P true h k = h
 either P false h k = k
 

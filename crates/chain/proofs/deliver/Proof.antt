@@ -6,7 +6,7 @@ use Rattle.telegram.specs.Numbers.{refused, done, numberOf}
 use Rattle.telegram.specs.declared.Refusal.{Refusal}
 use Rattle.command.specs.Commands.{sentAs, dissectionAs, dissecting}
 use Rattle.chain.specs.Record.{chainIn, decode}
-use Rattle.chain.specs.Memory.{refusalIn, refusedIn, respondedIn}
+use Rattle.chain.specs.Helpers.{refusalIn, refusedIn, respondedIn}
 use Rattle.chain.proofs.Exits.{chain-yes, chain-no}
 use Rattle.chain.proofs.Responding.{deliver-room, deliver-invalid, deliver-walks, left-as, refused-room, accepted-cast}
 use borrow.Author.Needs.{needs}

@@ -1,21 +1,15 @@
 -- `chain::fill` meets its contract.
 -- Assumes nothing.
-use mathlib.Core.Path.{_≡_, _∙_, ap, sym, refl}
-use Prim.Native.Nat.{ℕ, _≤_, _-_}
+use Prim.Native.Nat.{ℕ, _-_}
 use native.Mathlib.Omega.{arith}
-use lib.ListN.{length}
-use native.Mathlib.Nat.{sub-zero}
+use mathlib.Core.Path.{_≡_}
 use Rattle.rules.specs.declared.Lamp.{Lamp}
-use Rattle.chain.specs.Places.{sweep}
-use Rattle.chain.proofs.Records.{sweep-none, sweep-more}
-use borrow.Author.Needs.{needs}
+use Rattle.chain.proofs.Records.{Swept, swept-none, swept-more, swept-all}
 use Rattle.chain.proofs.fill.Statement.{statement}
 use Rattle.chain.proofs.fill.Tie as tie
 
--- what is left of the sweep makes of memory what the whole makes of it at the start
 abbrev Inv-loop : tie.InvT-loop
-Inv-loop mem₀ count l i₀ mem i =
-    (i ≤ count) × (sweep (λ (p : ℕ) (x : Lamp). l) i (count - i) mem ≡ sweep (λ (p : ℕ) (x : Lamp). l) 0 count mem₀) × (length mem ≡ length mem₀)
+Inv-loop mem₀ count l i₀ mem i = Swept (λ (p : ℕ) (x : Lamp). l) count mem₀ i mem
 
 abbrev μ-loop : tie.MeasureT-loop
 μ-loop mem₀ count l i₀ mem i = count - i
@@ -26,21 +20,15 @@ fill-spec =
     (tie.spec
     Inv-loop
     μ-loop
-    (λ c.
-    let a = c .before .args in
-    (search needs, ap (λ (n : ℕ). sweep (λ (p : ℕ) (x : Lamp). (a .l)) 0 n (a .mem .now)) (sub-zero (a .count)), refl))
+    (λ c. swept-none _ _ _)
     (λ c κs. omega arith)
     (λ c. omega arith)
     (λ c. omega arith)
     (λ c.
     let l = c .before .before .before .before .before .loop in
-    let a = c .before .before .before .before .before .before .before .args in
-    let f : ℕ → Lamp → Lamp = λ (p : ℕ) (x : Lamp). (a .l) in
-    (omega arith, ap (sweep f _ _) (c .before .before .store-lamp .ensures) ∙ sym (sweep-more f (l .i) (a .count) (l .mem) (c .before .before .before .before .loop-test .taken)) ∙ l .inv .1, c .before .before .store-lamp .kept .0 ∙ l .inv .2))
+    swept-more _ _ _ (l .i) (l .mem) (l .inv) (c .before .before .before .before .loop-test .taken) (c .before .before .store-lamp .ensures) (c .before .before .store-lamp .kept .0))
     (λ c. c .before .loop .inv .2)
     (λ c.
     let l = c .before .loop in
-    let a = c .before .before .before .args in
-    let f : ℕ → Lamp → Lamp = λ (p : ℕ) (x : Lamp). (a .l) in
-    let e : a .count ≡ l .i = omega arith in
-    sym (sweep-none f (l .i) (l .mem)) ∙ ap (λ (n : ℕ). sweep f (l .i) (n - l .i) (l .mem)) (sym e) ∙ l .inv .1))
+    let e : c .before .before .before .args .count ≡ l .i = omega arith in
+    swept-all _ _ _ (l .i) (l .mem) (l .inv) e))

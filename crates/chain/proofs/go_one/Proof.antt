@@ -1,6 +1,11 @@
 -- `chain::go_one` meets its contract.
 -- Assumes nothing.
-use mathlib.Core.Path.{_∙_}
+use mathlib.Core.Path.{_∙_, ap}
+use mathlib.Core.Bool.{not, _||_}
+use Rattle.rules.specs.declared.State.{State}
+use Rattle.rules.specs.Lamp.{uninitialized, withState}
+use Rattle.chain.specs.Places.{withLamp, ifHeeds}
+use Rattle.chain.proofs.Slots.{state-picked}
 use borrow.Author.Needs.{needs}
 use Rattle.chain.proofs.go_one.Statement.{statement}
 use Rattle.chain.proofs.go_one.Tie as tie
@@ -11,5 +16,13 @@ go-one-spec =
     (tie.spec
     (λ c κs. search needs)
     (λ c κs. search needs)
+    (λ c κs. search needs)
+    (λ c κs. search needs)
     (λ c. search needs)
-    (λ c. c .before .before .put-status .ensures ∙ rw (c .before .before .before .before .before .load-status .ensures)))
+    (λ c.
+    let a = c .before .before .before .before .before .before .before .before .before .args in
+    c .before .before .store-lamp .ensures
+    ∙ ap (withLamp (a .mem .now) (a .p .0)) (c .before .before .before .with-state .ensures
+    ∙ ap (λ (t : State). withState t (c .before .before .before .before .before .before .load-lamp .result)) (c .before .before .before .before .state-after .ensures)
+    ∙ state-picked (not (uninitialized (c .before .before .before .before .before .before .load-lamp .result .state)) || (a .always)) (a .s) (c .before .before .before .before .before .before .load-lamp .result)
+    ∙ ap (ifHeeds (a .always) (withState (a .s))) (c .before .before .before .before .before .before .load-lamp .ensures))))

@@ -1,13 +1,10 @@
 -- `chain::init_all` meets its contract: refused while a lamp has no address, else the walk marks each lamp.
 -- Assumes nothing.
 use mathlib.Core.Path.{_∙_, ap, sym}
-use Prim.Native.Nat.{ℕ, _-_}
+use Prim.Native.Nat.{ℕ}
 use native.Mathlib.Omega.{arith}
-use Rattle.rules.specs.declared.Defaults.{Defaults}
-use Rattle.rules.specs.declared.Lamp.{Lamp}
 use Rattle.rules.specs.Chain.{anyUnaddressed}
 use Rattle.chain.specs.Record.{lampsIn, decode}
-use Rattle.chain.specs.Places.{sweep, ordered}
 use Rattle.chain.proofs.Records.{Valid, chain-in}
 use Rattle.chain.proofs.Responding.{told, init-unaddressed, init-marks}
 use borrow.Author.Needs.{needs}
@@ -27,27 +24,17 @@ init-all-spec =
     (λ c κs. omega (arith, valid (c .before .before .before .before .before) .room, c .before .count-of .ensures))
     (λ c. search needs)
     (λ c.
-    let s = c .before .before .before .before .before .before .before in
-    let a = s .args in
-    told (init-unaddressed (a .mem .now) (λ i. omega (arith, c .before .before .before .before .before .before .slice-known .given i)) (valid s) (a .n) (s .pre .1) (a .room .now)
+    let a = c .before .before .before .before .before .before .before .args in
+    told (init-unaddressed (a .mem .now) (λ i. omega (arith, c .before .before .before .before .before .before .slice-known .given i)) (valid (c .before .before .before .before .before .before .before)) (a .n) (c .before .before .before .before .before .before .before .pre .1) (a .room .now)
     (sym (ap (λ (q : ℕ). anyUnaddressed (lampsIn q (a .mem .now))) (c .before .before .before .count-of .ensures)) ∙ sym (c .before .any-unaddressed .ensures) ∙ c .if1 .taken)))
-    (λ c κs. omega (arith, valid (c .before .before .before .before .before .before .before .before) .room))
-    (λ c κs. search needs)
-    (λ c κs. (omega arith, omega (arith, valid (c .before .before .before .before .before .before .before .before .before .before .before) .room, c .before .before .before .before .before .before .before .count-of .ensures), c .init-order .ensures .1))
+    (λ c κs. omega (arith, valid (c .before .before .before .before .before .before .before .before) .room, c .before .before .before .before .count-of .ensures))
     (λ c κs.
-    let s = c .before .before .before .before .before .before .before .before .before .before .before .before .before .before .before .before in
-    let n = c .before .before .before .before .before .before .before .before .before .before .before .before .count-of .ensures in
-    (omega (arith, valid s .some, n), omega (arith, valid s .room, n, c .before .before .before .before .order-lamps .kept .0), omega arith, s .pre .2, s .pre .3))
+    let n = c .before .before .before .before .before .before .before .before .before .count-of .ensures in
+    (omega (arith, valid (c .before .before .before .before .before .before .before .before .before .before .before .before .before) .some, n), omega (arith, valid (c .before .before .before .before .before .before .before .before .before .before .before .before .before) .room, n, c .before .before .before .before .mark-lamps .kept .0), omega arith, c .before .before .before .before .before .before .before .before .before .before .before .before .before .pre .2, c .before .before .before .before .before .before .before .before .before .before .before .before .before .pre .3))
     (λ c. search needs)
     (λ c. search needs)
     (λ c.
-    let s = c .before .before .before .before .before .before .before .before .before .before .before .before .before .before .before .before .before .before .before in
-    let a = s .args in
-    let m = a .mem .now in
-    let n = c .before .before .before .before .before .before .before .before .before .before .before .before .before .before .before .count-of .ensures in
-    let o = c .before .before .before .before .before .before .before .before .init-order .result in
+    let a = c .before .before .before .before .before .before .before .before .before .before .before .before .before .before .before .before .args in
     let e = c .before .before .answer-last .ensures in
-    told (init-marks m (λ i. omega (arith, c .before .before .before .before .before .before .before .before .before .before .before .before .before .before .before .before .before .before .slice-known .given i)) (valid s) (a .n) (s .pre .1) (a .room .now) o (c .before .before .before .before .before .before .before .before .init-order .ensures .0)
-    n (sym (c .before .before .before .before .before .before .before .before .before .before .before .before .before .any-unaddressed .ensures) ∙ c .before .before .before .before .before .before .before .before .before .before .before .before .if1 .left)
-    (c .before .before .before .before .before .before .before .order-lamps .ensures ∙ ap (λ (d : Defaults). sweep (λ (p : ℕ) (l : Lamp). ordered d o l) 0 (c .before .before .before .before .before .before .before .before .before .before .before .before .before .before .before .count-of .result - 0) m) (c .before .before .before .before .before .before .before .before .before .before .defaults-of .ensures))
-    (e .0) (e .1))))
+    told (init-marks (a .mem .now) (λ i. omega (arith, c .before .before .before .before .before .before .before .before .before .before .before .before .before .before .before .slice-known .given i)) (valid (c .before .before .before .before .before .before .before .before .before .before .before .before .before .before .before .before)) (a .n) (c .before .before .before .before .before .before .before .before .before .before .before .before .before .before .before .before .pre .1) (a .room .now) (c .before .before .before .before .before .before .before .before .before .before .before .before .count-of .ensures)
+    (sym (c .before .before .before .before .before .before .before .before .before .before .any-unaddressed .ensures) ∙ c .before .before .before .before .before .before .before .before .before .if1 .left) (c .before .before .before .before .before .before .before .mark-lamps .ensures) (e .0) (e .1))))

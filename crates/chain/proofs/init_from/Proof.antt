@@ -1,6 +1,5 @@
 -- `chain::init_from` meets its contract: past 3EF it is refused, else the walk numbers each lamp.
 -- Assumes nothing.
-use Prim.Native.Nat.{_-_}
 use native.Mathlib.Omega.{arith}
 use Rattle.chain.specs.Record.{decode}
 use Rattle.chain.proofs.Records.{Valid, chain-in}

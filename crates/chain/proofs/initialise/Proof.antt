@@ -9,7 +9,7 @@ use Rattle.command.specs.declared.Cast.{Cast}
 use Rattle.command.specs.declared.Cast.the-variants.{One}
 use Rattle.command.specs.Casts.{castInRange}
 use Rattle.command.proofs.Both.{and-right}
-use Rattle.chain.specs.Memory.{respondedIn, initOf}
+use Rattle.chain.specs.Helpers.{respondedIn, initOf}
 use Rattle.chain.proofs.Records.{chain-in}
 use Rattle.chain.proofs.Responding.{told, told-as, init-group}
 use borrow.Author.Needs.{needs}

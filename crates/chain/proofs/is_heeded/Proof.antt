@@ -1,9 +1,7 @@
 -- `chain::is_heeded` meets its contract.
 -- Assumes nothing.
-use mathlib.Core.Path.{ap, sym}
-use mathlib.Core.Bool.{not, _||_}
-use Rattle.rules.specs.declared.State.{State}
-use Rattle.rules.specs.Lamp.{uninitialized}
+use mathlib.Core.Path.{_∙_, ap₂}
+use mathlib.Core.Bool.{Bool, _&&_}
 use borrow.Author.Needs.{needs}
 use Rattle.chain.proofs.is_heeded.Statement.{statement}
 use Rattle.chain.proofs.is_heeded.Tie as tie
@@ -15,6 +13,4 @@ is-heeded-spec =
     (λ c κs. search needs)
     (λ c κs. search needs)
     (λ c κs. search needs)
-    (λ c l e g.
-    let h = ap (λ (s : State). not (uninitialized s) || (c .before .before .before .args .order .always)) (sym e) in
-    rw (c .and .ensures, c .before .before .is-reached .ensures l g, c .before .heeds .ensures, h)))
+    (λ c. c .and .ensures ∙ ap₂ (λ (a b : Bool). a && b) (c .before .before .is-reached .ensures) (c .before .heeds .ensures)))

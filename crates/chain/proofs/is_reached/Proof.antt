@@ -1,10 +1,7 @@
 -- `chain::is_reached` meets its contract.
 -- Assumes nothing.
-use mathlib.Core.Path.{_∙_, _≡_, ap, sym, subst}
+use mathlib.Core.Path.{_≡_, _∙_, ap, sym, subst}
 use mathlib.Core.Bool.{true}
-use Prim.Native.Nat.{ℕ}
-use lib.Dec.{eqb}
-use Prim.Native.Nat.{_/_, _%_, _^_}
 use borrow.Author.Tests.{ltb-true}
 use Rattle.chain.specs.declared.Reach.{Reach}
 use Rattle.chain.specs.Places.{reached, reachFits}
@@ -21,7 +18,5 @@ is-reached-spec =
     (λ c. search needs)
     (λ c. search needs)
     (λ c κs. ltb-true _ 16 (subst (λ (x : Reach). reachFits x ≡ true) (c .before .reach .given .1) (c .before .before .before .pre)))
-    (λ c l e. ap (λ (x : Reach). reached x l) (sym (c .enum-told .given .1)))
-    (λ c l e.
-    c .is-member .ensures ∙ ap (λ (w : ℕ). eqb (w / 2 ^ (c .before .before .reach .given .0 .0) % 2) 1) (sym e)
-    ∙ ap (λ (x : Reach). reached x l) (sym (c .before .before .reach .given .1))))
+    (λ c. ap (λ (x : Reach). reached x (c .before .before .args .l)) (sym (c .enum-told .given .1)))
+    (λ c. c .is-member .ensures ∙ ap (λ (x : Reach). reached x (c .before .before .before .before .args .l)) (sym (c .before .before .reach .given .1))))

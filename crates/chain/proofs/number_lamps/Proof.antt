@@ -1,23 +1,17 @@
 -- `chain::number_lamps` meets its contract.
 -- Assumes nothing.
-use mathlib.Core.Path.{_≡_, _∙_, ap, sym, refl}
-use Prim.Native.Nat.{ℕ, _≤_, _-_}
+use Prim.Native.Nat.{ℕ, _-_}
 use native.Mathlib.Omega.{arith}
-use lib.ListN.{length}
-use native.Mathlib.Nat.{sub-zero}
+use mathlib.Core.Path.{_≡_}
 use Rattle.rules.specs.declared.Lamp.{Lamp}
-use Rattle.rules.specs.Lamp.{numberedAs}
 use Prim.Native.Nat.{_+_}
-use Rattle.chain.specs.Places.{sweep}
-use Rattle.chain.proofs.Records.{sweep-none, sweep-more}
-use borrow.Author.Needs.{needs}
+use Rattle.rules.specs.Lamp.{numberedAs}
+use Rattle.chain.proofs.Records.{Swept, swept-none, swept-more, swept-all}
 use Rattle.chain.proofs.number_lamps.Statement.{statement}
 use Rattle.chain.proofs.number_lamps.Tie as tie
 
--- what is left of the sweep makes of memory what the whole makes of it at the start
 abbrev Inv-loop : tie.InvT-loop
-Inv-loop mem₀ count n first i₀ mem i =
-    (i ≤ count) × (sweep (λ (p : ℕ) (l : Lamp). numberedAs n (first .0 + p) l) i (count - i) mem ≡ sweep (λ (p : ℕ) (l : Lamp). numberedAs n (first .0 + p) l) 0 count mem₀) × (length mem ≡ length mem₀)
+Inv-loop mem₀ count n first i₀ mem i = Swept (λ (p : ℕ) (x : Lamp). numberedAs n (first .0 + p) x) count mem₀ i mem
 
 abbrev μ-loop : tie.MeasureT-loop
 μ-loop mem₀ count n first i₀ mem i = count - i
@@ -28,21 +22,15 @@ number-lamps-spec =
     (tie.spec
     Inv-loop
     μ-loop
-    (λ c.
-    let a = c .before .args in
-    (search needs, ap (λ (n : ℕ). sweep (λ (p : ℕ) (l : Lamp). numberedAs (a .n) ((a .first) .0 + p) l) 0 n (a .mem .now)) (sub-zero (a .count)), refl))
+    (λ c. swept-none _ _ _)
     (λ c κs. (omega arith, omega arith))
     (λ c. omega arith)
     (λ c. omega arith)
     (λ c.
     let l = c .before .before .before .before .before .loop in
-    let a = c .before .before .before .before .before .before .before .args in
-    let f : ℕ → Lamp → Lamp = λ (p : ℕ) (l : Lamp). numberedAs (a .n) ((a .first) .0 + p) l in
-    (omega arith, ap (sweep f _ _) (c .before .before .number-one .ensures) ∙ sym (sweep-more f (l .i) (a .count) (l .mem) (c .before .before .before .before .loop-test .taken)) ∙ l .inv .1, c .before .before .number-one .kept .0 ∙ l .inv .2))
+    swept-more _ _ _ (l .i) (l .mem) (l .inv) (c .before .before .before .before .loop-test .taken) (c .before .before .number-one .ensures) (c .before .before .number-one .kept .0))
     (λ c. c .before .loop .inv .2)
     (λ c.
     let l = c .before .loop in
-    let a = c .before .before .before .args in
-    let f : ℕ → Lamp → Lamp = λ (p : ℕ) (l : Lamp). numberedAs (a .n) ((a .first) .0 + p) l in
-    let e : a .count ≡ l .i = omega arith in
-    sym (sweep-none f (l .i) (l .mem)) ∙ ap (λ (n : ℕ). sweep f (l .i) (n - l .i) (l .mem)) (sym e) ∙ l .inv .1))
+    let e : c .before .before .before .args .count ≡ l .i = omega arith in
+    swept-all _ _ _ (l .i) (l .mem) (l .inv) e))

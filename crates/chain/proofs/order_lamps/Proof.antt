@@ -1,23 +1,19 @@
 -- `chain::order_lamps` meets its contract.
 -- Assumes nothing.
-use mathlib.Core.Path.{_≡_, _∙_, ap, sym, refl}
-use Prim.Native.Nat.{ℕ, _≤_, _-_}
+use Prim.Native.Nat.{ℕ, _-_}
 use native.Mathlib.Omega.{arith}
-use lib.ListN.{length}
+use mathlib.Core.Path.{_≡_}
 use Rattle.rules.specs.declared.Lamp.{Lamp}
-use Rattle.chain.specs.Places.{sweep, ordered}
-use Rattle.chain.proofs.Records.{sweep-none, sweep-more}
-use borrow.Author.Needs.{needs}
+use Rattle.chain.specs.Places.{ordered}
+use Rattle.chain.proofs.Records.{Swept, swept-none, swept-more, swept-all}
 use Rattle.chain.proofs.order_lamps.Statement.{statement}
 use Rattle.chain.proofs.order_lamps.Tie as tie
 
--- what is left of the sweep makes of memory what the whole makes of it at the start
 abbrev Inv-loop : tie.InvT-loop
-Inv-loop mem₀ from to d order i₀ mem i =
-    (i ≤ to) × (sweep (λ (p : ℕ) (l : Lamp). ordered d order l) i (to - i) mem ≡ sweep (λ (p : ℕ) (l : Lamp). ordered d order l) from (to - from) mem₀) × (length mem ≡ length mem₀)
+Inv-loop mem₀ count d order i₀ mem i = Swept (λ (p : ℕ) (x : Lamp). ordered d order x) count mem₀ i mem
 
 abbrev μ-loop : tie.MeasureT-loop
-μ-loop mem₀ from to d order i₀ mem i = to - i
+μ-loop mem₀ count d order i₀ mem i = count - i
 
 pub order-lamps-spec : {M : Type 1} → statement M
 order-lamps-spec =
@@ -25,21 +21,15 @@ order-lamps-spec =
     (tie.spec
     Inv-loop
     μ-loop
-    (λ c.
-    let a = c .before .args in
-    (search needs, refl, refl))
-    (λ c κs. (omega arith, c .before .before .before .before .pre .2))
+    (λ c. swept-none _ _ _)
+    (λ c κs. (omega arith, c .before .before .before .before .pre .1))
     (λ c. omega arith)
     (λ c. omega arith)
     (λ c.
     let l = c .before .before .before .before .before .loop in
-    let a = c .before .before .before .before .before .before .before .args in
-    let f : ℕ → Lamp → Lamp = λ (p : ℕ) (l : Lamp). ordered (a .d) (a .order) l in
-    (omega arith, ap (sweep f _ _) (c .before .before .order-one .ensures) ∙ sym (sweep-more f (l .i) (a .to) (l .mem) (c .before .before .before .before .loop-test .taken)) ∙ l .inv .1, c .before .before .order-one .kept .0 ∙ l .inv .2))
+    swept-more _ _ _ (l .i) (l .mem) (l .inv) (c .before .before .before .before .loop-test .taken) (c .before .before .order-one .ensures) (c .before .before .order-one .kept .0))
     (λ c. c .before .loop .inv .2)
     (λ c.
     let l = c .before .loop in
-    let a = c .before .before .before .args in
-    let f : ℕ → Lamp → Lamp = λ (p : ℕ) (l : Lamp). ordered (a .d) (a .order) l in
-    let e : a .to ≡ l .i = omega arith in
-    sym (sweep-none f (l .i) (l .mem)) ∙ ap (λ (n : ℕ). sweep f (l .i) (n - l .i) (l .mem)) (sym e) ∙ l .inv .1))
+    let e : c .before .before .before .args .count ≡ l .i = omega arith in
+    swept-all _ _ _ (l .i) (l .mem) (l .inv) e))

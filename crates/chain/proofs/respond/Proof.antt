@@ -15,7 +15,7 @@ use Rattle.command.proofs.Both.{and-right}
 use Rattle.command.proofs.Sound.{sound}
 use Rattle.rules.specs.Chain.{isInit}
 use Rattle.chain.specs.declared.Reach.the-variants.{Everyone as All, Members}
-use Rattle.chain.specs.Memory.{respondedIn, reachedIn, initOf}
+use Rattle.chain.specs.Helpers.{respondedIn, reachedIn, initOf}
 use Rattle.chain.proofs.Records.{chain-in}
 use Rattle.chain.proofs.Responding.{told-as, respond-plain, respond-init, reached-done}
 use borrow.Author.Needs.{needs}

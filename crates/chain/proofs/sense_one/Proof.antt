@@ -1,8 +1,10 @@
 -- `chain::sense_one` meets its contract.
 -- Assumes nothing.
-use mathlib.Core.Path.{_∙_}
-use native.Mathlib.Omega.{arith}
-use Rattle.chain.proofs.Slots.{put-sensed}
+use mathlib.Core.Path.{_∙_, ap}
+use Rattle.rules.specs.declared.Flags.{Flags}
+use Rattle.rules.specs.declared.Lamp.{Lamp}
+use Rattle.rules.specs.Lamp.{withFlags, sensed}
+use Rattle.chain.specs.Places.{withLamp}
 use borrow.Author.Needs.{needs}
 use Rattle.chain.proofs.sense_one.Statement.{statement}
 use Rattle.chain.proofs.sense_one.Tie as tie
@@ -13,16 +15,12 @@ sense-one-spec =
     (tie.spec
     (λ c κs. search needs)
     (λ c κs. search needs)
-    (λ c. search needs)
-    (λ c. search needs)
-    (λ c. search needs)
-    (λ c κs. search needs)
-    (λ c. search needs)
     (λ c κs. search needs)
     (λ c. search needs)
     (λ c.
-    let s = c .before .before .before .before .before .before .before .before .before in
-    let a = s .before .args in
-    c .before .before .put-bytes .ensures
-    ∙ put-sensed (a .mem .now) (a .p .0) (λ i. omega (arith, s .slice-known .given i)) (s .before .pre) (a .temperature) (a .faults)
-    (rw (c .before .before .before .before .before .status-byte .ensures, c .before .before .before .before .before .before .faulted-flags .ensures, c .before .before .before .before .before .before .before .load-lamp .ensures))))
+    let a = c .before .before .before .before .before .before .before .before .before .args in
+    let e = c .before .before .before .before .before .before .load-lamp .ensures in
+    let sensing : Flags → Lamp → Lamp = λ (f : Flags) (x : Lamp). withFlags f (sensed (a .temperature) (a .faults) x) in
+    c .before .before .store-lamp .ensures
+    ∙ ap (λ (f : Flags). withLamp (a .mem .now) (a .p .0) (sensing f (c .before .before .before .before .before .before .load-lamp .result))) (c .before .before .before .before .faulted-flags .ensures)
+    ∙ ap (λ (x : Lamp). withLamp (a .mem .now) (a .p .0) (sensed (a .temperature) (a .faults) x)) e))

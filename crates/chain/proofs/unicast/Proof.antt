@@ -1,7 +1,7 @@
 -- `chain::unicast` meets its contract.
 -- Assumes nothing.
 use mathlib.Core.Path.{_≡_, _∙_, ap, sym}
-use Prim.Native.Nat.{ℕ, _+_, _-_, _<_}
+use Prim.Native.Nat.{ℕ, _<_}
 use native.Mathlib.Omega.{arith}
 use Rattle.telegram.specs.Numbers.{done, counted, front}
 use Rattle.telegram.specs.Telegram.{listed}
@@ -13,7 +13,7 @@ use Rattle.rules.specs.Lamp.{answered}
 use Rattle.command.specs.Commands.{messageOf}
 use Rattle.chain.specs.declared.Found.the-variants.{At}
 use Rattle.chain.specs.Record.{countOf, lampsIn, decode}
-use Rattle.chain.specs.Places.{lampAt, sweep, reachFits, ordered, placeFrom}
+use Rattle.chain.specs.Places.{lampAt, withLamp, reachFits, ordered, placeFrom}
 use Rattle.lamp.specs.Reactions.{padded}
 use Rattle.lamp.proofs.Payloads.{Handed, handed, answered-listed}
 use Rattle.chain.proofs.Records.{Valid, chain-in}
@@ -40,8 +40,8 @@ in-chain c =
     found-in (a .mem .now) (λ i. omega (arith, c .before .before .before .before .before .before .before .before .slice-known .given i)) (valid (c .before .before .before .before .before .before .before .before .before)) (messageOf (a .command)) (a .a) _ (found-is c)
 
 -- the bytes of the answer
-bytes : (c : tie.After-answer-bytes) → let a = c .before .before .before .before .before .before .before .before .before .before .before .before .before .before .before .before .before .before .before .args in Handed (answered (a .n) (lampAt (a .mem .now) (c .before .before .before .before .before .before .before .before .before .before .before .found .given .0 .0 .0))) (c .answer-bytes .result)
-bytes c = handed _ _ (c .answer-bytes .ensures ∙ ap (λ (l : Lamp). padded (answered (c .before .before .before .before .before .before .before .before .before .before .before .before .before .before .before .before .before .before .before .args .n) l)) (c .before .before .before .before .before .before .before .before .load-lamp .ensures))
+bytes : (c : tie.After-answer-bytes) → let a = c .before .before .before .before .before .before .before .before .before .before .before .before .args in Handed (answered (a .n) (lampAt (a .mem .now) (c .before .before .before .before .found .given .0 .0 .0))) (c .answer-bytes .result)
+bytes c = handed _ _ (c .answer-bytes .ensures ∙ ap (λ (l : Lamp). padded (answered (c .before .before .before .before .before .before .before .before .before .before .before .before .args .n) l)) (c .before .load-lamp .ensures))
 
 pub unicast-spec : {M : Type 1} → statement M
 unfolding decode
@@ -54,36 +54,29 @@ unicast-spec =
     (λ c. search needs)
     (λ c. search needs)
     (λ c.
-    let s = c .before .before .before .before .before .before .before .before in
-    let a = s .args in
-    told (unicast-nobody (a .mem .now) (λ i. omega (arith, c .before .before .before .before .before .before .before .slice-known .given i)) (valid s) (messageOf (a .command)) (a .a) (a .room .now)
+    let a = c .before .before .before .before .before .before .before .before .args in
+    told (unicast-nobody (a .mem .now) (λ i. omega (arith, c .before .before .before .before .before .before .before .slice-known .given i)) (valid (c .before .before .before .before .before .before .before .before)) (messageOf (a .command)) (a .a) (a .room .now)
     (sym (search-is (c .before .before)) ∙ c .enum-told .given .1)))
     (λ c κs. omega (arith, valid (c .before .before .before .before .before .before .before .before .before .before) .room, in-chain (c .before)))
-    (λ c κs. omega (arith, valid (c .before .before .before .before .before .before .before .before .before .before .before .before) .room))
     (λ c κs. search needs)
-    (λ c. omega (arith, valid (c .before .before .before .before .before .before .before .before .before .before .before .before .before .before .before) .most, in-chain (c .before .before .before .before .before .before)))
-    (λ c κs.
-    (omega arith, omega (arith, valid (c .before .before .before .before .before .before .before .before .before .before .before .before .before .before .before) .room, in-chain (c .before .before .before .before .before .before)), ap reachFits (c .before .order-of .ensures .0 .1)))
+    (λ c κs. (c .before .before .before .before .before .before .before .before .before .before .before .before .before .pre .3, c .before .before .before .before .before .before .before .before .before .before .before .before .before .pre .2, c .before .before .before .before .before .before .before .before .before .before .before .before .before .pre .4, bytes (c .before) .within, ap listed (bytes (c .before) .size) ∙ answered-listed _ _))
+    (λ c κs. omega (arith, valid (c .before .before .before .before .before .before .before .before .before .before .before .before .before .before .before .before .before) .room))
     (λ c κs. search needs)
-    (λ c κs.
-    let p = c .before .before .before .before .before .before .before .before .before .before .before .before .before .before .before .before .before .before .before .before .pre in
-    (p .3, p .2, p .4, bytes (c .before) .within, ap listed (bytes (c .before) .size) ∙ answered-listed _ _))
+    (λ c κs. (omega (arith, valid (c .before .before .before .before .before .before .before .before .before .before .before .before .before .before .before .before .before .before .before .before) .room, in-chain (c .before .before .before .before .before .before .before .before .before .before .before)), ap reachFits (c .order-of .ensures .0 .1)))
     (λ c. search needs)
     (λ c. search needs)
     (λ c.
-    let s = c .before .before .before .before .before .before .before .before .before .before .before .before .before .before .before .before .before .before .before .before .before .before .before in
-    let a = s .args in
+    let a = c .before .before .before .before .before .before .before .before .before .before .before .before .before .before .before .before .before .before .before .before .before .before .before .args in
     let m = a .mem .now in
     let q = c .before .before .before .before .before .before .before .before .before .before .before .before .before .before .before .found .given .0 .0 in
-    let o = c .before .before .before .before .before .before .before .before .before .order-of .result in
+    let o = c .before .before .before .order-of .result in
     let x = messageOf (a .command) in
-    let n = s .pre .1 in
-    let e = c .before .before .answer .ensures in
-    let p = take (c .before .before .before .before .answer-bytes .result .size) (c .before .before .before .before .answer-bytes .result .bytes) in
-    told (unicast-found m (λ i. omega (arith, c .before .before .before .before .before .before .before .before .before .before .before .before .before .before .before .before .before .before .before .before .before .before .slice-known .given i)) (valid s) x (a .a) q (found-is (c .before .before .before .before .before .before .before .before .before .before .before .before .before .before)) (a .room .now) o
-    (order-for x _ o n (c .before .before .before .before .before .before .before .before .before .order-of .ensures .0) (c .before .before .before .before .before .before .before .before .before .order-of .ensures .1))
-    (c .before .before .before .before .before .before .before .order-lamps .ensures
-    ∙ ap (λ (d : Defaults). sweep (λ (p : ℕ) (l : Lamp). ordered d o l) (q .0) (q .0 + 1 - q .0) m) (c .before .before .before .before .before .before .before .before .before .before .defaults-of .ensures))
-    (bytes (c .before .before .before .before) .payload ∙ ap (λ (k : ℕ). answered k (lampAt m (q .0))) (sym n))
+    let n = c .before .before .before .before .before .before .before .before .before .before .before .before .before .before .before .before .before .before .before .before .before .before .before .pre .1 in
+    let e = c .before .before .before .before .before .before .before .before .before .answer .ensures in
+    let p = take (c .before .before .before .before .before .before .before .before .before .before .before .answer-bytes .result .size) (c .before .before .before .before .before .before .before .before .before .before .before .answer-bytes .result .bytes) in
+    told (unicast-found m (λ i. omega (arith, c .before .before .before .before .before .before .before .before .before .before .before .before .before .before .before .before .before .before .before .before .before .before .slice-known .given i)) (valid (c .before .before .before .before .before .before .before .before .before .before .before .before .before .before .before .before .before .before .before .before .before .before .before)) x (a .a) q (found-is (c .before .before .before .before .before .before .before .before .before .before .before .before .before .before)) (a .room .now) o
+    (order-for x _ o n (c .before .before .before .order-of .ensures .0) (c .before .before .before .order-of .ensures .1))
+    (c .before .before .order-one .ensures ∙ ap (λ (d : Defaults). withLamp m (q .0) (ordered d o (lampAt m (q .0)))) (c .before .before .before .before .before .defaults-of .ensures))
+    (bytes (c .before .before .before .before .before .before .before .before .before .before .before) .payload ∙ ap (λ (k : ℕ). answered k (lampAt m (q .0))) (sym n))
     (e .0 ∙ ap (λ (k : ℕ). counted (done (answerFrom (a .a .0) k p))) (sym n))
     (e .1 ∙ ap (λ (k : ℕ). front (answerFrom (a .a .0) k p) (a .room .now)) (sym n)))))

@@ -1,0 +1,42 @@
+-- How the code splits delivery: what the contracts of its helpers cite. No public contract cites these.
+-- Assumes nothing.
+use Prim.Native.Nat.{ℕ}
+use mathlib.Core.List.{List, []}
+use Rattle.telegram.specs.Numbers.{refused, done}
+use Rattle.telegram.specs.declared.Refusal.{Refusal}
+use Rattle.telegram.specs.declared.Refusal.the-variants.{TooShort}
+use Rattle.command.specs.Commands.{Message, Sent, numbered}
+use Rattle.command.specs.declared.Cast.{Cast}
+use Rattle.command.specs.declared.Cast.the-variants.{Everyone, Group}
+use Rattle.command.specs.declared.Dissection.{Dissection}
+use Rattle.command.specs.declared.Dissection.the-variants.{Accepted, Refused as NotAccepted}
+use Rattle.rules.specs.Chain.{Walked, walk, reaching, responding}
+use Rattle.chain.specs.Record.{decode}
+use Rattle.chain.specs.declared.Reach.{Reach}
+use Rattle.chain.specs.declared.Reach.the-variants.{Everyone as ReachEveryone, Members}
+
+-- An accepted telegram and the lamps in memory: 7 for an init at 000, 12, else the walk.
+unfoldable pub respondedIn : List ℕ → Sent → Walked
+respondedIn mem t = responding (decode mem .defaults) (decode mem .lamps) (done t)
+
+-- An init of a kind, 02 or 03, for a cast.
+abbrev pub initOf : ℕ → Cast → Sent
+initOf k cast = record { message = numbered k []; cast = cast }
+
+-- The refusal that the dissector's answer holds. (An accepted telegram holds none; of it this gives 1.)
+abbrev pub refusalIn : Dissection → Refusal
+refusalIn (NotAccepted e) = e
+refusalIn (Accepted t) = TooShort
+
+-- The cast of which an order's reach is made.
+abbrev pub castOf : Reach → Cast
+castOf ReachEveryone = Everyone
+castOf (Members g) = Group g
+
+-- A refusal with a number and the lamps in memory: 5 sets CE on the lamp at place 0.
+unfoldable pub refusedIn : List ℕ → ℕ → Walked
+refusedIn mem n = responding (decode mem .defaults) (decode mem .lamps) (refused n)
+
+-- The walk of a command that is no init along the lamps in memory.
+unfoldable pub reachedIn : List ℕ → Message → Cast → Walked
+reachedIn mem m cast = walk (reaching (decode mem .defaults) m cast) 0 (decode mem .lamps)
