@@ -6,3 +6,4 @@ pub mod Responding
 pub mod Lengths
 pub mod Calling
 pub mod InMemory
+pub mod Contracts
