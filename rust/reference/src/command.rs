@@ -4,7 +4,7 @@ use crate::telegram::{exact, Payload, Telegram};
 use crate::Refusal;
 
 /// The last address of a single lamp.
-const LAST_LAMP: u32 = 0x3EF;
+pub(crate) const LAST_LAMP: u16 = 0x3EF;
 /// The address of group 0; the groups follow one another.
 const FIRST_GROUP: u32 = 0x3F0;
 /// The last group.
@@ -23,7 +23,7 @@ pub struct Lamp(u16);
 impl Lamp {
     /// A lamp's address, if it is in range.
     pub fn new(address: u32) -> Option<Lamp> {
-        (1..=LAST_LAMP)
+        (1..=u32::from(LAST_LAMP))
             .contains(&address)
             .then_some(Lamp(address as u16))
     }

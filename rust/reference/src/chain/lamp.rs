@@ -2,7 +2,7 @@
 //! place on the slot's bytes.
 
 use crate::chain::Defaults;
-use crate::command::{Group, Lamp, Name};
+use crate::command::{Group, Lamp, Name, LAST_LAMP};
 use std::ops::RangeInclusive;
 
 /// The bytes of a slot.
@@ -15,7 +15,7 @@ pub type Slot = [u8; SLOT];
 pub const READ_OUT: usize = 18;
 
 /// The addresses of lamps, and that of a lamp which has none.
-const LAMPS: RangeInclusive<u16> = 1..=0x3EF;
+const LAMPS: RangeInclusive<u16> = 1..=LAST_LAMP;
 const NO_ADDRESS: u16 = 0x3FF;
 
 const STATUS: usize = 2;
