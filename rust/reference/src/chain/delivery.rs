@@ -10,18 +10,10 @@ use crate::Refusal;
 /// to 8, then 7 for an init at 000, or 12. A refusal changes nothing, but 5
 /// sets CE on the lamp at place 0.
 pub fn deliver(memory: &mut [u8], bytes: &[u8], room: &mut [u8]) -> Result<usize, Refusal> {
-    if room.len() < LONGEST {
-        return Err(Refusal::Room);
-    }
+    let room = room.first_chunk_mut().ok_or(Refusal::Room)?;
     let mut chain = Chain::open(memory)?;
-    let telegram = Telegram::parse(bytes).inspect_err(|&refusal| chain.overhear(refusal))?;
-    let (name, cast) = heading(&telegram)?;
-    match name {
-        Name::InitBidir => chain.init(name, cast, Direction::Bidirectional, room),
-        Name::InitLoop => chain.init(name, cast, Direction::Loop, room),
-        _ if name.is_answered() => chain.read(name, cast, room),
-        _ => chain.obey(name, cast, telegram.payload()).map(|()| 0),
-    }
+    let telegram = chain.hear(bytes)?;
+    chain.take(&telegram, room)
 }
 
 /// Writes an answer.
@@ -30,10 +22,31 @@ fn answer(address: u16, name: Name, bytes: &[u8], room: &mut [u8]) -> Result<usi
 }
 
 impl Chain<'_> {
-    /// Sets CE on the lamp nearest the host after a wrong checksum.
-    fn overhear(&mut self, refusal: Refusal) {
-        if refusal == Refusal::Checksum {
-            lamp::set_error(&mut self.slots[0]);
+    /// Reads a telegram that comes from the host: 1 to 5. A wrong checksum sets
+    /// CE on the lamp nearest the host.
+    #[inline]
+    pub fn hear<'a>(&mut self, bytes: &'a [u8]) -> Result<Telegram<'a>, Refusal> {
+        Telegram::parse(bytes).inspect_err(|&refusal| {
+            if refusal == Refusal::Checksum {
+                lamp::set_error(&mut self.slots[0]);
+            }
+        })
+    }
+
+    /// Takes a telegram and gives the count of answer bytes written: 6 to 8,
+    /// then 7 for an init at 000, or 12.
+    #[inline]
+    pub fn take(
+        &mut self,
+        telegram: &Telegram,
+        room: &mut [u8; LONGEST],
+    ) -> Result<usize, Refusal> {
+        let (name, cast) = heading(telegram)?;
+        match name {
+            Name::InitBidir => self.init(name, cast, Direction::Bidirectional, room),
+            Name::InitLoop => self.init(name, cast, Direction::Loop, room),
+            _ if name.is_answered() => self.read(name, cast, room),
+            _ => self.obey(name, cast, telegram.payload()).map(|()| 0),
         }
     }
 

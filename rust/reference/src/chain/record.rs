@@ -60,6 +60,26 @@ impl<'a> Chain<'a> {
         let slots = &mut rest.as_chunks_mut().0[..count];
         Ok(Chain { defaults, slots })
     }
+
+    /// A sensor report: 13, then 10.
+    pub fn sense(&mut self, place: Place, temperature: u8, faults: u32) -> Result<(), Refusal> {
+        let slot = self.slots.get_mut(place.0 as usize);
+        let slot = slot.ok_or(Refusal::Place)?;
+        if faults > ALL_FAULTS {
+            return Err(Refusal::Range);
+        }
+        lamp::sense(slot, temperature, faults as u8);
+        Ok(())
+    }
+
+    /// The lamps in the order of their places, each read out.
+    pub fn lamps(&self) -> impl Iterator<Item = [u8; READ_OUT]> + use<'_> {
+        self.slots.iter().map(|slot| {
+            let mut out = [0; READ_OUT];
+            lamp::read_out(slot, &mut out);
+            out
+        })
+    }
 }
 
 /// Makes a chain of fresh lamps: 11 for the count, then 9.
@@ -76,14 +96,7 @@ pub fn make(memory: &mut [u8], count: usize, defaults: Defaults) -> Result<(), R
 
 /// A sensor report: 11, 13, then 10.
 pub fn sense(memory: &mut [u8], place: Place, temperature: u8, faults: u32) -> Result<(), Refusal> {
-    let chain = Chain::open(memory)?;
-    let slot = chain.slots.get_mut(place.0 as usize);
-    let slot = slot.ok_or(Refusal::Place)?;
-    if faults > ALL_FAULTS {
-        return Err(Refusal::Range);
-    }
-    lamp::sense(slot, temperature, faults as u8);
-    Ok(())
+    Chain::open(memory)?.sense(place, temperature, faults)
 }
 
 /// Reads out the lamp at a place: 11, 13, then 9.
