@@ -236,6 +236,16 @@ impl Channel {
         }
     }
 
+    /// Whether the current is that of daytime.
+    pub fn is_daytime(self) -> bool {
+        self.daytime
+    }
+
+    /// How long the light is on, up to 32,767.
+    pub fn duty(self) -> u16 {
+        self.duty
+    }
+
     /// The word as it travels.
     pub fn word(self) -> u16 {
         let mode = if self.daytime { DAYTIME } else { 0 };

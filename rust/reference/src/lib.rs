@@ -9,6 +9,7 @@
 //! - [`wire`]: the flat functions of the C interface, on slices.
 //! - [`case`]: one call with its inputs.
 //! - [`line`]: the lines of the cases file, and what is printed behind them.
+//! - [`replay`]: the tool's replay of a script, written from docs/TOOL.md alone.
 
 #![forbid(unsafe_code)]
 
@@ -18,6 +19,7 @@ pub mod chain;
 pub mod command;
 pub mod line;
 pub mod refusal;
+pub mod replay;
 pub mod telegram;
 pub mod wire;
 

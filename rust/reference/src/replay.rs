@@ -1,0 +1,247 @@
+//! The replay of a script on a fresh chain, written from docs/TOOL.md.
+//!
+//! - [`arguments`]: how the program is called.
+//! - [`pieces`]: input cut into pieces of whole lines.
+//! - [`script`]: what a line says.
+//! - [`page`]: output, gathered before it is written.
+//! - [`words`]: the names of things.
+//! - [`text`] and [`json`]: the two forms of output.
+
+pub mod arguments;
+mod json;
+mod page;
+mod pieces;
+mod script;
+#[cfg(test)]
+mod tests;
+mod text;
+mod words;
+
+use crate::answer::Reply;
+use crate::chain::lamp::READ_OUT;
+use crate::chain::{self, Chain, Defaults};
+use crate::command::{Order, Pwm};
+use crate::telegram::{Telegram, LONGEST};
+use crate::Refusal;
+use page::Page;
+use pieces::Pieces;
+use script::{Line, Report, Sent};
+use std::fmt::{self, Display, Formatter};
+use std::io::{self, Read, Write};
+
+/// The chain to make, and what to print.
+#[derive(Clone, Copy, Debug, PartialEq, Eq)]
+pub struct Options {
+    pub lamps: u32,
+    pub defaults: Defaults,
+    /// Whether the lamps alone are printed.
+    pub quiet: bool,
+    pub json: bool,
+}
+
+/// Why a replay ended early.
+#[derive(Debug)]
+pub enum Failure {
+    /// The chain was refused.
+    Chain(Refusal),
+    /// The line with this number says nothing known, or is too long.
+    Line(u64),
+    Input(io::Error),
+    Output(io::Error),
+}
+
+impl Display for Failure {
+    fn fmt(&self, out: &mut Formatter) -> fmt::Result {
+        match self {
+            Failure::Chain(refusal) => {
+                let (number, words) = (refusal.number(), words::refusal(*refusal));
+                write!(out, "refused {number}: {words}")
+            }
+            Failure::Line(number) => write!(
+                out,
+                "line {number}: expected hex bytes, 'sensor PLACE TEMP FAULTS' or a comment"
+            ),
+            Failure::Input(error) => write!(out, "cannot read: {error}"),
+            Failure::Output(error) => write!(out, "cannot write: {error}"),
+        }
+    }
+}
+
+/// The exit status of a program that replayed so.
+pub fn status(outcome: &Result<u64, Failure>) -> u8 {
+    match outcome {
+        Ok(0) => 0,
+        Ok(_) | Err(Failure::Chain(_)) => 1,
+        Err(Failure::Line(_) | Failure::Input(_) | Failure::Output(_)) => 2,
+    }
+}
+
+/// Does a script line by line and prints it, then the lamps. Gives the number
+/// of lines that were refused.
+pub fn replay(options: &Options, input: impl Read, mut output: impl Write) -> Result<u64, Failure> {
+    let lamps = options.lamps as usize;
+    let mut record = vec![0; chain::length(lamps).unwrap_or(0)];
+    chain::make(&mut record, lamps, options.defaults).map_err(Failure::Chain)?;
+    let mut replay = Replay {
+        chain: Chain::open(&mut record).map_err(Failure::Chain)?,
+        print: match (options.quiet, options.json) {
+            (true, _) => Print::Nothing,
+            (false, false) => Print::Text,
+            (false, true) => Print::Json,
+        },
+        page: Page::default(),
+        refused: 0,
+    };
+    let ended = replay.script(input, &mut output);
+    if ended.is_ok() {
+        replay.lamps(options, &mut output)?;
+    }
+    replay.page.write(&mut output).map_err(Failure::Output)?;
+    output.flush().map_err(Failure::Output)?;
+    ended.map(|()| replay.refused)
+}
+
+/// What is printed of each line.
+#[derive(Clone, Copy)]
+enum Print {
+    Nothing,
+    Text,
+    Json,
+}
+
+/// A telegram that was done, and the answer to it.
+struct Exchange {
+    order: Order,
+    answer: Option<(Sent, Reply)>,
+}
+
+/// A lamp's fields.
+struct Fields {
+    address: u16,
+    state: u8,
+    com: u8,
+    flags: u8,
+    temperature: u8,
+    thresholds: [u8; 3],
+    setup: u8,
+    groups: u16,
+    pwm: Pwm,
+}
+
+impl Fields {
+    /// The fields of a lamp that is read out.
+    fn of(
+        [a1, a0, state, com, flags, temperature, t0, t1, t2, setup, g1, g0, pwm @ ..]: [u8;
+            READ_OUT],
+    ) -> Fields {
+        Fields {
+            address: u16::from_be_bytes([a1, a0]),
+            state,
+            com,
+            flags,
+            temperature,
+            thresholds: [t0, t1, t2],
+            setup,
+            groups: u16::from_be_bytes([g1, g0]),
+            pwm: Pwm::of_bytes(pwm),
+        }
+    }
+}
+
+/// A replay under way.
+struct Replay<'a> {
+    chain: Chain<'a>,
+    print: Print,
+    page: Page,
+    refused: u64,
+}
+
+impl Replay<'_> {
+    /// Does all the lines.
+    fn script(&mut self, input: impl Read, output: &mut impl Write) -> Result<(), Failure> {
+        let mut pieces = Pieces::new(input);
+        let mut number = 0;
+        while let Some(mut text) = pieces.next().map_err(Failure::Input)? {
+            while !text.is_empty() {
+                number += 1;
+                match Line::take(&mut text).ok_or(Failure::Line(number))? {
+                    Line::Nothing => {}
+                    Line::Telegram(sent) => self.telegram(number, &sent),
+                    Line::Sensor(report) => self.sensor(number, &report),
+                }
+                self.page.spill(output).map_err(Failure::Output)?;
+            }
+        }
+        Ok(())
+    }
+
+    /// Delivers a telegram and prints what came of it.
+    fn telegram(&mut self, line: u64, sent: &Sent) {
+        let refused = match self.print {
+            Print::Nothing => self.deliver(sent).is_err(),
+            Print::Text => {
+                let outcome = self.exchange(sent);
+                text::telegram(&mut self.page, line, sent, &outcome);
+                outcome.is_err()
+            }
+            Print::Json => {
+                let outcome = self.exchange(sent);
+                json::telegram(&mut self.page, line, sent, &outcome);
+                outcome.is_err()
+            }
+        };
+        self.refused += u64::from(refused);
+    }
+
+    /// Delivers a telegram.
+    fn deliver(&mut self, sent: &Sent) -> Result<(), Refusal> {
+        let telegram = self.chain.hear(sent.bytes())?;
+        self.chain.take(&telegram, &mut [0; LONGEST]).map(|_| ())
+    }
+
+    /// Delivers a telegram and names it and its answer.
+    fn exchange(&mut self, sent: &Sent) -> Result<Exchange, Refusal> {
+        let telegram = self.chain.hear(sent.bytes())?;
+        let order = Order::of_telegram(&telegram)?;
+        let mut room = [0; LONGEST];
+        let count = self.chain.take(&telegram, &mut room)?;
+        if count == 0 {
+            return Ok(Exchange {
+                order,
+                answer: None,
+            });
+        }
+        let answer = Sent::of(&room[..count]);
+        let reply = Reply::of_telegram(&Telegram::parse(answer.bytes())?)?;
+        let answer = Some((answer, reply));
+        Ok(Exchange { order, answer })
+    }
+
+    /// Does a sensor report and prints what came of it.
+    fn sensor(&mut self, line: u64, report: &Report) {
+        let (place, faults) = (report.place, report.faults);
+        let outcome = self.chain.sense(place, report.temperature, faults);
+        self.refused += u64::from(outcome.is_err());
+        match self.print {
+            Print::Nothing => {}
+            Print::Text => text::sensor(&mut self.page, line, report, outcome),
+            Print::Json => json::sensor(&mut self.page, line, report, outcome),
+        }
+    }
+
+    /// Prints the lamps.
+    fn lamps(&mut self, options: &Options, output: &mut impl Write) -> Result<(), Failure> {
+        if !options.json {
+            text::head(&mut self.page, options.quiet);
+        }
+        for (place, lamp) in (0..).zip(self.chain.lamps()) {
+            let fields = Fields::of(lamp);
+            match options.json {
+                false => text::lamp(&mut self.page, place, &fields),
+                true => json::lamp(&mut self.page, place, &fields),
+            }
+            self.page.spill(output).map_err(Failure::Output)?;
+        }
+        Ok(())
+    }
+}
