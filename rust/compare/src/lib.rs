@@ -8,9 +8,12 @@
 //! - [`chains`]: chains and what is given to them.
 //! - [`chain_suites`]: the calls on chains that are compared.
 //! - [`lists`]: demand 3 of document 01, tried on the library alone.
+//! - [`scripts`]: scripts for the replay.
 //! - [`random`]: the seeded source of them.
+//! - [`arguments`]: the numbers among a program's arguments.
 
 pub mod arena;
+pub mod arguments;
 pub mod chain_suites;
 pub mod chains;
 pub mod check;
@@ -19,4 +22,5 @@ pub mod library;
 pub mod lists;
 pub mod material;
 pub mod random;
+pub mod scripts;
 pub mod suites;

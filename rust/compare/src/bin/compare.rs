@@ -3,6 +3,7 @@
 //! the least number of calls to compare.
 
 use reference::line::{Line, Memory};
+use sides::arguments::number;
 use sides::chain_suites::CHAIN_SUITES;
 use sides::check::Checker;
 use sides::library::LIBRARY;
@@ -26,13 +27,6 @@ fn compare_file(check: &mut Checker, path: &str) -> Result<(), String> {
         }
     }
     Ok(())
-}
-
-/// The argument at a place as a number, or the number used without it.
-fn number(place: usize, default: u64) -> Result<u64, String> {
-    env::args().nth(place).map_or(Ok(default), |text| {
-        text.parse().map_err(|_| format!("not a number: {text}"))
-    })
 }
 
 /// Compares the functions on all inputs.
