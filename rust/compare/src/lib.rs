@@ -10,10 +10,13 @@
 //! - [`lists`]: demand 3 of document 01, tried on the library alone.
 //! - [`scripts`]: scripts for the replay.
 //! - [`random`]: the seeded source of them.
+//! - [`workloads`]: the calls that are timed.
+//! - [`callgrind`]: how many instructions a program takes.
 //! - [`arguments`]: the numbers among a program's arguments.
 
 pub mod arena;
 pub mod arguments;
+pub mod callgrind;
 pub mod chain_suites;
 pub mod chains;
 pub mod check;
@@ -24,3 +27,4 @@ pub mod material;
 pub mod random;
 pub mod scripts;
 pub mod suites;
+pub mod workloads;

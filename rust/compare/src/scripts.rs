@@ -8,6 +8,11 @@ use reference::chain::Defaults;
 use reference::replay::Options;
 use reference::wire::REFERENCE;
 
+/// Numbers of the commands that an ordinary script holds.
+const INITBIDIR: u32 = 0x02;
+const GOACTIVE: u32 = 0x05;
+const READSTATUS: u32 = 0x40;
+const READTEMPST: u32 = 0x42;
 /// Lamp counts that are tried.
 const COUNTS: [u32; 6] = [1, 2, 9, 31, 300, 1007];
 /// Lamp counts that are refused, as they are written, and as they are taken.
@@ -98,7 +103,7 @@ pub fn script(lines: usize, random: &mut Random) -> Script {
     let mut long = (random.below(6) == 0).then(|| random.below(lines));
     if random.below(4) > 0 {
         writer.telegram(&fitting(1, random.between(2, 3), &[]), random);
-        writer.telegram(&fitting(0, 5, &[]), random);
+        writer.telegram(&fitting(0, GOACTIVE, &[]), random);
     }
     for line in 0..lines {
         if malformed.take_if(|at| *at == line).is_some() {
@@ -442,4 +447,35 @@ fn refused(number: u32, random: &mut Random) -> Vec<u8> {
         _ => bytes = fitting(0x3EF, random.between(2, 3), &[]),
     }
     bytes
+}
+
+/// A script of so many lines as a board's day has them: the lamps are set and
+/// asked for their state, some sensors report, a few lines are refused.
+pub fn ordinary(lamps: u32, lines: usize, random: &mut Random) -> String {
+    let start = [fitting(1, INITBIDIR, &[]), fitting(0, GOACTIVE, &[])];
+    let mut script = String::new();
+    for line in 0..lines {
+        let lamp = random.between(1, lamps);
+        let telegram = match random.below(100) {
+            _ if line < start.len() => start[line].clone(),
+            0..=54 => fitting(lamp, SETPWM, &random.bytes(6)),
+            55..=74 => fitting(lamp, READSTATUS, &[]),
+            75..=87 => fitting(lamp, READTEMPST, &[]),
+            88..=90 => fitting(0, GOACTIVE, &[]),
+            91..=93 => refused(random.pick(&REFUSALS), random),
+            _ => {
+                let (place, faults) = (lamp - 1, random.between(0, 8));
+                let report = format!("sensor {place} {:02X} {faults}\n", random.byte());
+                script += &report;
+                continue;
+            }
+        };
+        let words: Vec<String> = telegram
+            .iter()
+            .map(|byte| digits(&[*byte], false))
+            .collect();
+        script += &words.join(" ");
+        script.push('\n');
+    }
+    script
 }

@@ -1,184 +1,54 @@
-//! Times the static library and the second implementation on the same inputs,
-//! in turns: `bench` prints a table, `bench once NAME SIDE` makes a fixed
-//! number of calls of one workload on one side. The workloads `last-...` are
-//! deliveries to the last lamp of a chain, `all-...` to everyone; their names
-//! end with the number of lamps.
+//! Times the library beside the second implementation on the same inputs, in
+//! turns, and counts the instructions of both: `bench [TOOL]` prints a table, in
+//! it the replay of the program TOOL beside that of the second implementation.
+//! `bench once NAME SIDE [TURNS]` makes some turns of one workload on one side.
 
 use reference::wire::{Side, REFERENCE};
-use sides::chains::slot;
+use sides::callgrind;
 use sides::library::LIBRARY;
-use sides::material::{destination, fitting, KNOWN, SETPWM};
 use sides::random::Random;
-use std::env;
-use std::hint::black_box;
-use std::process::ExitCode;
+use sides::scripts::ordinary;
+use sides::workloads::{workloads, Workload};
+use std::path::{Path, PathBuf};
+use std::process::{Command, ExitCode, Stdio};
 use std::time::Instant;
+use std::{env, fs, io, process};
 
 /// Measured turns of each side; the median is printed.
 const TURNS: usize = 151;
 /// Turns of a workload that is run alone.
 const ONCE: usize = 10;
-/// What SETPWM carries, and the same as modes and duties.
-const WORDS: [u8; 6] = [0x12, 0x34, 0x80, 0x00, 0xFF, 0xFF];
-const MODES: u32 = 3;
-const DUTIES: [u32; 3] = [0x1234, 0, 0x7FFF];
-/// The most lamps of a chain.
-const MOST: usize = 1007;
-/// Numbers of the commands that are delivered.
-const INITBIDIR: u32 = 0x02;
-const GOACTIVE: u32 = 0x05;
-const READSTATUS: u32 = 0x40;
+/// Lines of a script that is replayed, and measured runs of each program.
+const LINES: usize = 100_000;
+const RUNS: usize = 11;
+/// The lamp counts of the replays.
+const LAMPS: [u32; 2] = [9, 300];
+/// The status of a replay in which a line was refused.
+const REFUSED: i32 = 1;
 
-/// What is called.
-enum Job {
-    Checksum(Vec<u8>),
-    Read(Vec<u8>),
-    Dissect(Vec<Vec<u8>>),
-    Build,
-    BuildCommand,
-    BuildPwm,
-    /// A telegram to a chain, whose record is lent anew at every turn.
-    Deliver {
-        record: Vec<u8>,
-        bytes: Vec<u8>,
-    },
-}
+/// A measure of the library or the tool, and of the second implementation.
+struct Pair(f64, f64);
 
-/// A named job and how often it is repeated in one turn.
-struct Workload {
-    name: &'static str,
-    job: Job,
-    repeats: usize,
-}
-
-/// Repeats a call so that none can be left out.
-fn repeat(times: usize, mut call: impl FnMut() -> u32) {
-    for _ in 0..times {
-        black_box(call());
-    }
-}
-
-impl Workload {
-    /// One turn on one side.
-    fn turn(&self, side: &Side) {
-        let side = black_box(side);
-        let mut room = [0; 16];
-        let room = &mut room[..];
-        let times = self.repeats;
-        match &self.job {
-            Job::Checksum(bytes) => {
-                repeat(times, || u32::from((side.checksum)(black_box(bytes))));
-            }
-            Job::Read(bytes) => repeat(times, || (side.read)(black_box(bytes), black_box(room))),
-            Job::Dissect(set) => repeat(times, || {
-                set.iter().fold(0, |last, bytes| {
-                    last ^ (side.dissect)(black_box(bytes), black_box(room))
-                })
-            }),
-            Job::Build => repeat(times, || {
-                (side.build)(black_box(5), SETPWM, black_box(&WORDS), black_box(room))
-            }),
-            Job::BuildCommand => repeat(times, || {
-                (side.build_command)(SETPWM, 1, black_box(5), black_box(&WORDS), black_box(room))
-            }),
-            Job::BuildPwm => repeat(times, || {
-                let (lamp, modes, [red, green, blue]) = black_box((5, MODES, DUTIES));
-                (side.build_pwm)(1, lamp, modes, red, green, blue, black_box(room))
-            }),
-            Job::Deliver { record, bytes } => {
-                let mut record = record.clone();
-                let record = &mut record[..];
-                repeat(times, || {
-                    (side.deliver)(black_box(record), black_box(bytes), black_box(room))
-                });
-            }
+impl Pair {
+    /// The medians of measures that are taken in turns.
+    fn of<T>(
+        turns: usize,
+        sides: [&T; 2],
+        measure: impl Fn(&T) -> Result<f64, String>,
+    ) -> Result<Pair, String> {
+        let (mut first, mut second) = (Vec::new(), Vec::new());
+        for _ in 0..turns {
+            first.push(measure(sides[0])?);
+            second.push(measure(sides[1])?);
         }
+        Ok(Pair(median(first), median(second)))
     }
 
-    /// The calls made in one turn.
-    fn calls(&self) -> usize {
-        match &self.job {
-            Job::Dissect(set) => set.len() * self.repeats,
-            _ => self.repeats,
-        }
+    /// Both and their ratio as columns.
+    fn columns(&self) -> String {
+        let Pair(first, second) = self;
+        format!(" {first:>13.1} {second:>13.1} {:>6.2}", first / second)
     }
-
-    /// Nanoseconds per call in one turn.
-    fn measure(&self, side: &Side) -> f64 {
-        let start = Instant::now();
-        self.turn(side);
-        start.elapsed().as_nanos() as f64 / self.calls() as f64
-    }
-}
-
-/// A telegram of every command in each of its casts.
-fn mixed(random: &mut Random) -> Vec<Vec<u8>> {
-    let mut set = Vec::new();
-    for known in KNOWN {
-        for (cast, value) in known.casts(random) {
-            let payload = random.bytes(known.payload);
-            set.push(fitting(destination(cast, value), known.number, &payload));
-        }
-    }
-    set
-}
-
-/// A chain of so many lamps, numbered from 1; the same bytes for both sides.
-fn chain(count: usize) -> Vec<u8> {
-    let mut record = vec![0; slot(count)];
-    let side = &REFERENCE;
-    let made = (side.make)(&mut record, count as u32, 0x13, 0x03, 0xE6, 0xF0);
-    let init = fitting(1, INITBIDIR, &[]);
-    let numbered = (side.deliver)(&mut record, &init, &mut [0; 12]);
-    assert_eq!([made % 256, numbered % 256], [0, 0], "no chain");
-    record
-}
-
-/// The deliveries: to the last lamp, which is the farthest from the host, to
-/// everyone, and an init.
-fn deliveries() -> [Workload; 9] {
-    let of = |name, repeats, count, address, command, payload: &[u8]| Workload {
-        name,
-        job: Job::Deliver {
-            record: chain(count),
-            bytes: fitting(address, command, payload),
-        },
-        repeats,
-    };
-    [
-        of("last-setpwm-9", 5_000, 9, 9, SETPWM, &WORDS),
-        of("last-setpwm-300", 500, 300, 300, SETPWM, &WORDS),
-        of("last-setpwm-1007", 200, MOST, 1007, SETPWM, &WORDS),
-        of("last-readstatus-9", 5_000, 9, 9, READSTATUS, &[]),
-        of("last-readstatus-300", 500, 300, 300, READSTATUS, &[]),
-        of("last-readstatus-1007", 200, MOST, 1007, READSTATUS, &[]),
-        of("all-goactive-1007", 200, MOST, 0, GOACTIVE, &[]),
-        of("all-setpwm-1007", 200, MOST, 0, SETPWM, &WORDS),
-        of("init-1007", 200, MOST, 1, INITBIDIR, &[]),
-    ]
-}
-
-/// The calls that need no chain.
-fn plain_calls() -> [Workload; 8] {
-    let mut random = Random::new(1);
-    let setpwm = fitting(5, SETPWM, &WORDS);
-    let longest = fitting(1, SETPWM, &random.bytes(8));
-    let of = |name, repeats, job| Workload { name, job, repeats };
-    [
-        of("checksum-64k", 4, Job::Checksum(random.bytes(65_536))),
-        of("checksum-11", 20_000, Job::Checksum(random.bytes(11))),
-        of("read-12", 20_000, Job::Read(longest)),
-        of("dissect-setpwm", 20_000, Job::Dissect(vec![setpwm])),
-        of("dissect-mixed", 600, Job::Dissect(mixed(&mut random))),
-        of("build-setpwm", 20_000, Job::Build),
-        of("build-command-setpwm", 20_000, Job::BuildCommand),
-        of("build-pwm", 20_000, Job::BuildPwm),
-    ]
-}
-
-/// All the workloads.
-fn workloads() -> impl Iterator<Item = Workload> {
-    plain_calls().into_iter().chain(deliveries())
 }
 
 /// The middle one of some measures.
@@ -187,24 +57,183 @@ fn median(mut measures: Vec<f64>) -> f64 {
     measures[measures.len() / 2]
 }
 
-/// Measures every workload, the two sides in turns, and prints the table.
-fn table() {
-    println!("workload               library ns  reference ns  ratio");
-    for workload in workloads() {
-        let (mut library, mut reference) = (Vec::new(), Vec::new());
-        for _ in 0..TURNS {
-            library.push(workload.measure(&LIBRARY));
-            reference.push(workload.measure(&REFERENCE));
+/// The table, with or without the counts of instructions.
+struct Table {
+    counted: bool,
+}
+
+impl Table {
+    /// Prints what stands above the columns.
+    fn head(&self) {
+        let heads = |first, second| format!(" {first:>13} {second:>13} {:>6}", "ratio");
+        let mut columns = heads("library ns", "reference ns");
+        if self.counted {
+            columns += &heads("library inst.", "ref. inst.");
         }
-        let (library, reference) = (median(library), median(reference));
-        let ratio = library / reference;
-        let name = workload.name;
-        println!("{name:21} {library:>11.1} {reference:>13.1} {ratio:>6.2}");
+        println!("{:21}{columns}", "workload");
+    }
+
+    /// Prints a row: nanoseconds, and instructions where they are counted.
+    fn row<T>(
+        &self,
+        name: &str,
+        turns: usize,
+        sides: [&T; 2],
+        time: impl Fn(&T) -> Result<f64, String>,
+        count: impl Fn(&T) -> Result<f64, String>,
+    ) -> Result<(), String> {
+        let mut columns = Pair::of(turns, sides, time)?.columns();
+        if self.counted {
+            columns += &Pair::of(1, sides, count)?.columns();
+        }
+        println!("{name:21}{columns}");
+        Ok(())
     }
 }
 
-/// Makes a fixed number of turns of one workload on one side.
-fn once(name: &str, side: &str) -> Result<(), String> {
+/// The instructions of a call: what a second turn adds, so that all that comes
+/// before the first one is left out.
+fn count(workload: &Workload, side: &Side) -> Result<f64, String> {
+    let bench = env::current_exe().map_err(|error| error.to_string())?;
+    let run = |turns| callgrind::instructions(&bench, &["once", workload.name, side.name, turns]);
+    let turn = run("2")?.saturating_sub(run("1")?);
+    Ok(turn as f64 / workload.calls() as f64)
+}
+
+/// A program that replays scripts, and what stands before its options.
+struct Program {
+    path: PathBuf,
+    subcommand: Option<&'static str>,
+}
+
+/// A script that is replayed, in a file of its own.
+struct Replay {
+    lamps: u32,
+    script: PathBuf,
+}
+
+impl Replay {
+    /// Writes the script.
+    fn new(lamps: u32) -> io::Result<Replay> {
+        let file = format!("osp-bench-{}-{lamps}", process::id());
+        let script = env::temp_dir().join(file);
+        let text = ordinary(lamps, LINES, &mut Random::new(u64::from(lamps)));
+        fs::write(&script, text)?;
+        Ok(Replay { lamps, script })
+    }
+
+    /// What the program is called with.
+    fn arguments(&self, program: &Program, quiet: bool) -> Vec<String> {
+        let mut arguments: Vec<String> = program.subcommand.map(String::from).into_iter().collect();
+        arguments.extend(["--lamps".to_string(), self.lamps.to_string()]);
+        arguments.extend(quiet.then(|| "--quiet".to_string()));
+        arguments.push(self.script.display().to_string());
+        arguments
+    }
+
+    /// What the program prints.
+    fn output(&self, program: &Program) -> Result<Vec<u8>, String> {
+        let told = |error| format!("{}: {error}", program.path.display());
+        let mut command = Command::new(&program.path);
+        let output = command.args(self.arguments(program, false)).output();
+        output.map(|output| output.stdout).map_err(told)
+    }
+
+    /// The nanoseconds of a line in a whole run of the program.
+    fn time(&self, program: &Program, quiet: bool) -> Result<f64, String> {
+        let told = |error| format!("{}: {error}", program.path.display());
+        let mut command = Command::new(&program.path);
+        command.args(self.arguments(program, quiet));
+        command.stdin(Stdio::null()).stdout(Stdio::null());
+        let start = Instant::now();
+        let status = command.status().map_err(told)?;
+        let time = start.elapsed().as_nanos() as f64;
+        match status.code() {
+            Some(REFUSED) => Ok(time / LINES as f64),
+            _ => Err(format!("{}: {status}", program.path.display())),
+        }
+    }
+
+    /// The instructions of a line in a whole run of the program.
+    fn count(&self, program: &Program, quiet: bool) -> Result<f64, String> {
+        let arguments = self.arguments(program, quiet);
+        let arguments: Vec<&str> = arguments.iter().map(String::as_str).collect();
+        let total = callgrind::instructions(&program.path, &arguments)?;
+        Ok(total as f64 / LINES as f64)
+    }
+
+    /// Prints the rows of this script.
+    fn rows(&self, table: &Table, programs: [&Program; 2]) -> Result<(), String> {
+        if self.output(programs[0])? != self.output(programs[1])? {
+            return Err("the two programs print different texts".to_string());
+        }
+        for (form, quiet) in [("text", false), ("quiet", true)] {
+            let name = format!("replay-{form}-{}", self.lamps);
+            let time = |program: &Program| self.time(program, quiet);
+            let count = |program: &Program| self.count(program, quiet);
+            table.row(&name, RUNS, programs, time, count)?;
+        }
+        Ok(())
+    }
+}
+
+/// Prints the rows of the replays.
+fn replays(table: &Table, tool: &Path) -> Result<(), String> {
+    let bench = env::current_exe().map_err(|error| error.to_string())?;
+    let tool = Program {
+        path: tool.to_path_buf(),
+        subcommand: Some("replay"),
+    };
+    let reference = Program {
+        path: bench.with_file_name("replay"),
+        subcommand: None,
+    };
+    for lamps in LAMPS {
+        let replay = Replay::new(lamps).map_err(|error| error.to_string())?;
+        let outcome = replay.rows(table, [&tool, &reference]);
+        fs::remove_file(&replay.script).map_err(|error| error.to_string())?;
+        outcome?;
+    }
+    Ok(())
+}
+
+/// Measures every workload, the two sides in turns, and prints the table.
+fn table(tool: Option<&str>) -> Result<(), String> {
+    let table = Table {
+        counted: callgrind::is_there(),
+    };
+    table.head();
+    for workload in workloads() {
+        let time = |side: &Side| Ok(workload.measure(side));
+        let count = |side: &Side| count(&workload, side);
+        table.row(workload.name, TURNS, [&LIBRARY, &REFERENCE], time, count)?;
+    }
+    let tool = tool.ok_or("no program was named".to_string());
+    let tool = tool.and_then(|tool| match Path::new(tool) {
+        path if path.is_file() => Ok(path),
+        _ => Err(format!("{tool} is not built")),
+    });
+    if let Ok(tool) = tool {
+        replays(&table, tool)?;
+    }
+    println!();
+    println!("Medians of {TURNS} turns of each side, for a call.");
+    match table.counted {
+        true => println!("Instructions are counted by valgrind's callgrind."),
+        false => println!("Instructions are left out: valgrind is not installed."),
+    }
+    match tool {
+        Ok(_) => println!(
+            "replay-..: the tool beside the reference's program, for a line of a script of {LINES}; \
+             medians of {RUNS} whole runs of each."
+        ),
+        Err(reason) => println!("The rows of the tool's replay are left out: {reason}."),
+    }
+    Ok(())
+}
+
+/// Makes some turns of one workload on one side.
+fn once(name: &str, side: &str, turns: usize) -> Result<(), String> {
     let side = [&LIBRARY, &REFERENCE]
         .into_iter()
         .find(|known| known.name == side)
@@ -212,10 +241,11 @@ fn once(name: &str, side: &str) -> Result<(), String> {
     let workload = workloads()
         .find(|workload| workload.name == name)
         .ok_or(format!("no such workload: {name}"))?;
-    for _ in 0..ONCE {
+    for _ in 0..turns {
         workload.turn(side);
     }
-    println!("{name} on {}: {} calls", side.name, ONCE * workload.calls());
+    let calls = turns * workload.calls();
+    println!("{name} on {}: {calls} calls", side.name);
     Ok(())
 }
 
@@ -223,12 +253,14 @@ fn main() -> ExitCode {
     let arguments: Vec<String> = env::args().skip(1).collect();
     let arguments: Vec<&str> = arguments.iter().map(String::as_str).collect();
     let outcome = match arguments[..] {
-        [] => {
-            table();
-            Ok(())
-        }
-        ["once", name, side] => once(name, side),
-        _ => Err("usage: bench [once NAME library|reference]".to_string()),
+        ["once", name, side] => once(name, side, ONCE),
+        ["once", name, side, turns] => match turns.parse() {
+            Ok(turns) => once(name, side, turns),
+            Err(_) => Err(format!("not a number: {turns}")),
+        },
+        [] => table(None),
+        [tool] => table(Some(tool)),
+        _ => Err("usage: bench [TOOL], bench once NAME library|reference [TURNS]".to_string()),
     };
     if let Err(message) = outcome {
         eprintln!("{message}");

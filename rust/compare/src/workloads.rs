@@ -1,0 +1,183 @@
+//! The calls that are timed. The workloads `last-...` are deliveries to the last
+//! lamp of a chain, `all-...` to everyone, `group-...` to a group of all; their
+//! names end with the number of lamps.
+
+use crate::chains::{slot, MOST};
+use crate::material::{destination, fitting, KNOWN, SETPWM};
+use crate::random::Random;
+use reference::wire::{Side, REFERENCE};
+use std::hint::black_box;
+use std::time::Instant;
+
+/// What SETPWM carries, and the same as modes and duties.
+const WORDS: [u8; 6] = [0x12, 0x34, 0x80, 0x00, 0xFF, 0xFF];
+const MODES: u32 = 3;
+const DUTIES: [u32; 3] = [0x1234, 0, 0x7FFF];
+/// Numbers of the commands that are delivered.
+const RESET: u32 = 0x00;
+const CLRERROR: u32 = 0x01;
+const INITBIDIR: u32 = 0x02;
+const GOACTIVE: u32 = 0x05;
+const SETMULT: u32 = 0x0D;
+const READSTATUS: u32 = 0x40;
+/// The address of a group that every lamp of a chain is in, and its group word.
+const GROUP: u32 = 0x3F3;
+const MEMBER: [u8; 2] = [0x00, 0x08];
+
+/// What is called.
+enum Job {
+    Checksum(Vec<u8>),
+    Read(Vec<u8>),
+    Dissect(Vec<Vec<u8>>),
+    Build,
+    BuildCommand,
+    BuildPwm,
+    /// A telegram to a chain, whose record is lent anew at every turn.
+    Deliver {
+        record: Vec<u8>,
+        bytes: Vec<u8>,
+    },
+}
+
+/// A named job and how often it is repeated in one turn.
+pub struct Workload {
+    pub name: &'static str,
+    job: Job,
+    repeats: usize,
+}
+
+/// Repeats a call so that none can be left out.
+fn repeat(times: usize, mut call: impl FnMut() -> u32) {
+    for _ in 0..times {
+        black_box(call());
+    }
+}
+
+impl Workload {
+    /// One turn on one side.
+    pub fn turn(&self, side: &Side) {
+        let side = black_box(side);
+        let mut room = [0; 16];
+        let room = &mut room[..];
+        let times = self.repeats;
+        match &self.job {
+            Job::Checksum(bytes) => {
+                repeat(times, || u32::from((side.checksum)(black_box(bytes))));
+            }
+            Job::Read(bytes) => repeat(times, || (side.read)(black_box(bytes), black_box(room))),
+            Job::Dissect(set) => repeat(times, || {
+                set.iter().fold(0, |last, bytes| {
+                    last ^ (side.dissect)(black_box(bytes), black_box(room))
+                })
+            }),
+            Job::Build => repeat(times, || {
+                (side.build)(black_box(5), SETPWM, black_box(&WORDS), black_box(room))
+            }),
+            Job::BuildCommand => repeat(times, || {
+                (side.build_command)(SETPWM, 1, black_box(5), black_box(&WORDS), black_box(room))
+            }),
+            Job::BuildPwm => repeat(times, || {
+                let (lamp, modes, [red, green, blue]) = black_box((5, MODES, DUTIES));
+                (side.build_pwm)(1, lamp, modes, red, green, blue, black_box(room))
+            }),
+            Job::Deliver { record, bytes } => {
+                let mut record = record.clone();
+                let record = &mut record[..];
+                repeat(times, || {
+                    (side.deliver)(black_box(record), black_box(bytes), black_box(room))
+                });
+            }
+        }
+    }
+
+    /// The calls made in one turn.
+    pub fn calls(&self) -> usize {
+        match &self.job {
+            Job::Dissect(set) => set.len() * self.repeats,
+            _ => self.repeats,
+        }
+    }
+
+    /// Nanoseconds per call in one turn.
+    pub fn measure(&self, side: &Side) -> f64 {
+        let start = Instant::now();
+        self.turn(side);
+        start.elapsed().as_nanos() as f64 / self.calls() as f64
+    }
+}
+
+/// A telegram of every command in each of its casts.
+fn mixed(random: &mut Random) -> Vec<Vec<u8>> {
+    let mut set = Vec::new();
+    for known in KNOWN {
+        for (cast, value) in known.casts(random) {
+            let payload = random.bytes(known.payload);
+            set.push(fitting(destination(cast, value), known.number, &payload));
+        }
+    }
+    set
+}
+
+/// A chain of so many lamps, numbered from 1, all in one group; the same bytes
+/// for both sides.
+fn chain(count: usize) -> Vec<u8> {
+    let mut record = vec![0; slot(count)];
+    let side = &REFERENCE;
+    let made = (side.make)(&mut record, count as u32, 0x13, 0x03, 0xE6, 0xF0);
+    assert_eq!(made % 256, 0, "no chain");
+    for telegram in [fitting(1, INITBIDIR, &[]), fitting(0, SETMULT, &MEMBER)] {
+        let done = (side.deliver)(&mut record, &telegram, &mut [0; 12]);
+        assert_eq!(done % 256, 0, "no chain");
+    }
+    record
+}
+
+/// The deliveries: to the last lamp, which is the farthest from the host, to
+/// everyone, to a group, and an init.
+fn deliveries() -> [Workload; 12] {
+    let of = |name, repeats, count, address, command, payload: &[u8]| Workload {
+        name,
+        job: Job::Deliver {
+            record: chain(count),
+            bytes: fitting(address, command, payload),
+        },
+        repeats,
+    };
+    [
+        of("last-setpwm-9", 5_000, 9, 9, SETPWM, &WORDS),
+        of("last-setpwm-300", 500, 300, 300, SETPWM, &WORDS),
+        of("last-setpwm-1007", 200, MOST, 1007, SETPWM, &WORDS),
+        of("last-readstatus-9", 5_000, 9, 9, READSTATUS, &[]),
+        of("last-readstatus-300", 500, 300, 300, READSTATUS, &[]),
+        of("last-readstatus-1007", 200, MOST, 1007, READSTATUS, &[]),
+        of("all-goactive-1007", 200, MOST, 0, GOACTIVE, &[]),
+        of("all-setpwm-1007", 200, MOST, 0, SETPWM, &WORDS),
+        of("all-reset-1007", 200, MOST, 0, RESET, &[]),
+        of("all-clrerror-1007", 200, MOST, 0, CLRERROR, &[]),
+        of("group-setpwm-1007", 200, MOST, GROUP, SETPWM, &WORDS),
+        of("init-1007", 200, MOST, 1, INITBIDIR, &[]),
+    ]
+}
+
+/// The calls that need no chain.
+fn plain_calls() -> [Workload; 8] {
+    let mut random = Random::new(1);
+    let setpwm = fitting(5, SETPWM, &WORDS);
+    let longest = fitting(1, SETPWM, &random.bytes(8));
+    let of = |name, repeats, job| Workload { name, job, repeats };
+    [
+        of("checksum-64k", 4, Job::Checksum(random.bytes(65_536))),
+        of("checksum-11", 20_000, Job::Checksum(random.bytes(11))),
+        of("read-12", 20_000, Job::Read(longest)),
+        of("dissect-setpwm", 20_000, Job::Dissect(vec![setpwm])),
+        of("dissect-mixed", 600, Job::Dissect(mixed(&mut random))),
+        of("build-setpwm", 20_000, Job::Build),
+        of("build-command-setpwm", 20_000, Job::BuildCommand),
+        of("build-pwm", 20_000, Job::BuildPwm),
+    ]
+}
+
+/// All the workloads.
+pub fn workloads() -> impl Iterator<Item = Workload> {
+    plain_calls().into_iter().chain(deliveries())
+}
