@@ -62,7 +62,14 @@ impl Known {
     }
 }
 
-/// The number of SETPWM.
+/// Numbers of commands that are called by name.
+pub const RESET: u32 = 0x00;
+pub const CLRERROR: u32 = 0x01;
+pub const INITBIDIR: u32 = 0x02;
+pub const GOACTIVE: u32 = 0x05;
+pub const SETMULT: u32 = 0x0D;
+pub const READSTATUS: u32 = 0x40;
+pub const READTEMPST: u32 = 0x42;
 pub const SETPWM: u32 = 0x4F;
 
 /// The payload sizes that exist.

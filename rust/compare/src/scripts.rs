@@ -8,11 +8,6 @@ use reference::chain::Defaults;
 use reference::replay::Options;
 use reference::wire::REFERENCE;
 
-/// Numbers of the commands that an ordinary script holds.
-const INITBIDIR: u32 = 0x02;
-const GOACTIVE: u32 = 0x05;
-const READSTATUS: u32 = 0x40;
-const READTEMPST: u32 = 0x42;
 /// Lamp counts that are tried.
 const COUNTS: [u32; 6] = [1, 2, 9, 31, 300, 1007];
 /// Lamp counts that are refused, as they are written, and as they are taken.
@@ -29,6 +24,15 @@ const LENGTHS: [usize; 8] = [
     65_537,
     131_072,
     200_000,
+];
+/// Long lines: their ends, and what stands between them again and again.
+const LONG_FORMS: [(&[u8], u8, &[u8]); 6] = [
+    (b"#", b'x', b""),
+    (b"A0 00 05 B1", b' ', b""),
+    (b"", b'\t', b"A0 00 05 B1"),
+    (b"A000", b'0', b""),
+    (b"sensor ", b'0', b" 6B 1"),
+    (b"sensor 0 00 ", b'0', b"5"),
 ];
 /// What programs read at once.
 const PIECE: usize = 65_536;
@@ -86,31 +90,26 @@ struct Hand {
     plain: bool,
 }
 
-/// A random script of about so many lines.
+/// A random script of about so many lines. A malformed line, a line of a length
+/// at the edge or lines across what is read at once are put into some.
 pub fn script(lines: usize, random: &mut Random) -> Script {
-    let (options, arguments) = options(random);
-    let hand = Hand {
-        line_end: random.pick(&[&b"\n"[..], b"\n", b"\r\n"]),
-        lower: random.below(3) == 0,
-        plain: random.below(3) == 0,
-    };
-    let mut writer = Writer {
-        record: record(&options),
-        text: Vec::new(),
-        hand,
-    };
-    let mut malformed = (random.below(8) == 0).then(|| random.below(lines));
-    let mut long = (random.below(6) == 0).then(|| random.below(lines));
+    let mut writer = Writer::new(random);
+    let malformed = (random.below(8) == 0).then(|| random.below(lines));
+    let long = (random.below(16) == 0).then(|| random.below(lines));
+    let across = (random.below(8) == 0).then(|| random.below(lines));
     if random.below(4) > 0 {
         writer.telegram(&fitting(1, random.between(2, 3), &[]), random);
         writer.telegram(&fitting(0, GOACTIVE, &[]), random);
     }
-    for line in 0..lines {
-        if malformed.take_if(|at| *at == line).is_some() {
-            writer.malformed(random);
+    for line in (0..lines).map(Some) {
+        if malformed == line {
+            writer.malformed(random.pick(&MALFORMED), random);
         }
-        if long.take_if(|at| *at == line).is_some() {
-            writer.long_lines(random);
+        if long == line {
+            writer.long(random.pick(&LONG_FORMS), random.pick(&LENGTHS));
+        }
+        if across == line {
+            writer.straddle(random);
         }
         writer.line(random);
     }
@@ -118,11 +117,39 @@ pub fn script(lines: usize, random: &mut Random) -> Script {
         let end = writer.text.trim_ascii_end().len();
         writer.text.truncate(end);
     }
-    Script {
-        options,
-        arguments,
-        text: writer.text,
+    writer.script()
+}
+
+/// Every malformed line, and every form of a long line in every length, each
+/// in a short script.
+pub fn edges(random: &mut Random) -> Vec<Script> {
+    let mut scripts = Vec::new();
+    for line in MALFORMED {
+        scripts.push(edge(random, |writer, random| {
+            writer.malformed(line, random)
+        }));
     }
+    for form in LONG_FORMS {
+        for length in LENGTHS {
+            scripts.push(edge(random, |writer, _| writer.long(form, length)));
+        }
+    }
+    scripts
+}
+
+/// A short script with something in its middle, for a chain that is not
+/// refused.
+fn edge(random: &mut Random, put: impl Fn(&mut Writer, &mut Random)) -> Script {
+    let mut writer = Writer::new(random);
+    while !COUNTS.contains(&writer.options.lamps) {
+        writer = Writer::new(random);
+    }
+    for _ in 0..random.below(5) {
+        writer.line(random);
+    }
+    put(&mut writer, random);
+    writer.line(random);
+    writer.script()
 }
 
 /// Any options, as numbers and as they are written.
@@ -189,12 +216,39 @@ fn digits(bytes: &[u8], lower: bool) -> String {
 
 /// A script that is being written, and the chain after it.
 struct Writer {
+    options: Options,
+    arguments: Vec<String>,
     record: Vec<u8>,
     text: Vec<u8>,
     hand: Hand,
 }
 
 impl Writer {
+    /// A script for any chain, in any hand.
+    fn new(random: &mut Random) -> Writer {
+        let (options, arguments) = options(random);
+        Writer {
+            options,
+            arguments,
+            record: record(&options),
+            text: Vec::new(),
+            hand: Hand {
+                line_end: random.pick(&[&b"\n"[..], b"\n", b"\r\n"]),
+                lower: random.below(3) == 0,
+                plain: random.below(3) == 0,
+            },
+        }
+    }
+
+    /// The script as it was written.
+    fn script(self) -> Script {
+        Script {
+            options: self.options,
+            arguments: self.arguments,
+            text: self.text,
+        }
+    }
+
     /// A line of any kind but a malformed one.
     fn line(&mut self, random: &mut Random) {
         let telegram = match random.below(100) {
@@ -273,33 +327,15 @@ impl Writer {
         self.text.extend(self.hand.line_end);
     }
 
-    /// A line that ends the run; it may begin as a good one.
-    fn malformed(&mut self, random: &mut Random) {
+    /// A line that ends the run.
+    fn malformed(&mut self, line: &[u8], random: &mut Random) {
         self.space(random);
-        self.text.extend(random.pick(&MALFORMED));
+        self.text.extend(line);
         self.end(random);
     }
 
-    /// Lines as long as one may be, or too long, or at the end of what is read
-    /// at once.
-    fn long_lines(&mut self, random: &mut Random) {
-        let length = random.pick(&LENGTHS);
-        match random.below(8) {
-            0 => self.long_line(b"#", b'x', b"", length),
-            1 => self.long_line(b"A0 00 05 B1", b' ', b"", length),
-            2 => self.long_line(b"", b'\t', b"A0 00 05 B1", length),
-            3 => self.long_line(b"A000", b'0', b"00", length & !1),
-            4 => self.long_line(b"sensor 0 00 ", b'0', b"5", length),
-            _ => {
-                for _ in 0..random.between(1, 3) {
-                    self.straddle(random);
-                }
-            }
-        }
-    }
-
     /// A line of a length: its ends, and one byte between them again and again.
-    fn long_line(&mut self, front: &[u8], middle: u8, back: &[u8], length: usize) {
+    fn long(&mut self, (front, middle, back): (&[u8], u8, &[u8]), length: usize) {
         self.text.extend(front);
         let middles = length - front.len() - back.len();
         self.text.extend(std::iter::repeat_n(middle, middles));
@@ -313,7 +349,7 @@ impl Writer {
         let goal = (self.text.len() + before).next_multiple_of(PIECE) - before;
         while self.text.len() < goal {
             let length = (goal - self.text.len() - 1).min(LONGEST_LINE);
-            self.long_line(b"", b'#', b"", length);
+            self.long((b"", b'#', b""), length);
         }
         match random.below(3) {
             0 => self.sensor(random),

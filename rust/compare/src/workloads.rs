@@ -3,7 +3,8 @@
 //! names end with the number of lamps.
 
 use crate::chains::{slot, MOST};
-use crate::material::{destination, fitting, KNOWN, SETPWM};
+use crate::material::{destination, fitting, KNOWN};
+use crate::material::{CLRERROR, GOACTIVE, INITBIDIR, READSTATUS, RESET, SETMULT, SETPWM};
 use crate::random::Random;
 use reference::wire::{Side, REFERENCE};
 use std::hint::black_box;
@@ -13,13 +14,6 @@ use std::time::Instant;
 const WORDS: [u8; 6] = [0x12, 0x34, 0x80, 0x00, 0xFF, 0xFF];
 const MODES: u32 = 3;
 const DUTIES: [u32; 3] = [0x1234, 0, 0x7FFF];
-/// Numbers of the commands that are delivered.
-const RESET: u32 = 0x00;
-const CLRERROR: u32 = 0x01;
-const INITBIDIR: u32 = 0x02;
-const GOACTIVE: u32 = 0x05;
-const SETMULT: u32 = 0x0D;
-const READSTATUS: u32 = 0x40;
 /// The address of a group that every lamp of a chain is in, and its group word.
 const GROUP: u32 = 0x3F3;
 const MEMBER: [u8; 2] = [0x00, 0x08];

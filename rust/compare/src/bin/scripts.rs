@@ -1,11 +1,12 @@
 //! Holds a program's replay against the second implementation:
-//! `scripts PROGRAM [SEED [COUNT]]`. It calls `PROGRAM replay ..` for random
-//! scripts and compares standard output, standard error and the exit status.
+//! `scripts PROGRAM [SEED [COUNT]]`. It calls `PROGRAM replay ..` for scripts at
+//! the edges and for COUNT random ones, and compares standard output, standard
+//! error and the exit status.
 
 use reference::replay::{replay, status, Failure};
 use sides::arguments::number;
 use sides::random::Random;
-use sides::scripts::{script, Script};
+use sides::scripts::{edges, script, Script};
 use std::env;
 use std::fs::{self, File};
 use std::io::{self, Write};
@@ -17,7 +18,7 @@ use std::time::Instant;
 const SEED: u64 = 20_260_101;
 const COUNT: u64 = 300;
 /// The most lines that a script is given on purpose.
-const LINES: u32 = 460;
+const LINES: u32 = 500;
 /// The most bytes of a line that are shown.
 const SHOWN: usize = 300;
 /// Calls that are wrong use, or whose script cannot be read.
@@ -35,6 +36,28 @@ const WRONG: [&[&str]; 13] = [
     &["--lamps", "9", "--loud", "-"],
     &["--lamps", "9", "-", "-"],
     &["--lamps", "9", "no-such-folder/no-such-script"],
+];
+
+/// How a program gets its script.
+#[derive(Clone, Copy, Debug)]
+enum Way {
+    /// In a file that is named.
+    Named,
+    /// In a file at standard input.
+    Input,
+    /// Through a pipe, written in pieces of this size.
+    Pipe(usize),
+}
+
+const WAYS: [Way; 8] = [
+    Way::Named,
+    Way::Named,
+    Way::Input,
+    Way::Pipe(1000),
+    Way::Pipe(4096),
+    Way::Pipe(65_536),
+    Way::Pipe(65_537),
+    Way::Pipe(1 << 20),
 ];
 
 /// What a program prints, and how it ends.
@@ -65,6 +88,17 @@ struct Tally {
     chains: u64,
     /// Refusals that were printed, by their numbers.
     refusals: [u64; 14],
+}
+
+impl Tally {
+    /// The first refusal that a line can meet with and that none did.
+    fn missing(&self) -> Option<usize> {
+        // Nobody gives a replay a small room, and 11 is the chain's.
+        let of_lines = (1..self.refusals.len()).filter(|number| !matches!(number, 9 | 11));
+        of_lines
+            .into_iter()
+            .find(|number| self.refusals[*number] == 0)
+    }
 }
 
 /// What the second implementation prints.
@@ -126,35 +160,29 @@ impl Trial<'_> {
         command
     }
 
-    /// What the program prints for a script: from a file that is named, from
-    /// one at standard input, or through a pipe in pieces of a random size.
-    fn run(&self, script: &Script, path: &Path, random: &mut Random) -> io::Result<Printed> {
+    /// What the program prints for a script that it gets in a way.
+    fn run(&self, script: &Script, path: &Path, way: Way) -> io::Result<Printed> {
         let mut command = self.replay();
         command.args(&script.arguments);
-        let output = match random.below(3) {
-            0 => command.arg(path).stdin(Stdio::null()).output()?,
-            1 => command.arg("-").stdin(File::open(path)?).output()?,
-            _ => {
-                let size = random.pick(&[1000, 4096, 65_536, 65_537, 1 << 20]);
-                through_pipe(command.arg("-"), &script.text, size)?
-            }
+        let output = match way {
+            Way::Named => command.arg(path).stdin(Stdio::null()).output(),
+            Way::Input => command.arg("-").stdin(File::open(path)?).output(),
+            Way::Pipe(size) => through_pipe(command.arg("-"), &script.text, size),
         };
-        Ok(Printed::from(output))
+        output.map(Printed::from)
     }
 
     /// Compares one script; its file stays where they differ.
-    fn compare(&self, tally: &mut Tally, random: &mut Random) -> Result<(), String> {
-        let lines = random.between(1, LINES) as usize;
-        let script = script(lines, random);
+    fn compare(&self, script: &Script, way: Way, tally: &mut Tally) -> Result<(), String> {
         let path = self.folder.join(format!("script-{}", tally.scripts));
         let told = |error| format!("{}: {error}", path.display());
         fs::write(&path, &script.text).map_err(told)?;
-        let wanted = wanted(&script, tally);
-        let printed = self.run(&script, &path, random);
+        let wanted = wanted(script, tally);
+        let printed = self.run(script, &path, way);
         let printed = printed.map_err(|error| format!("{}: {error}", self.program))?;
         if let Some(difference) = difference(&printed, &wanted) {
             let (options, path) = (script.arguments.join(" "), path.display());
-            return Err(format!("replay {options} {path}\n{difference}"));
+            return Err(format!("replay {options} {path} ({way:?})\n{difference}"));
         }
         fs::remove_file(&path).map_err(told)
     }
@@ -267,11 +295,21 @@ fn run() -> Result<(), String> {
     };
     let mut random = Random::new(seed);
     let mut tally = Tally::default();
-    while tally.scripts < count {
-        trial.compare(&mut tally, &mut random)?;
+    for edge in edges(&mut random) {
+        trial.compare(&edge, random.pick(&WAYS), &mut tally)?;
+    }
+    for _ in 0..count {
+        let lines = random.between(1, LINES) as usize;
+        let script = script(lines, &mut random);
+        trial.compare(&script, random.pick(&WAYS), &mut tally)?;
     }
     fs::remove_dir(&trial.folder).map_err(|error| error.to_string())?;
     let misused = trial.misuse()?;
+    if let Some(number) = tally.missing().filter(|_| count >= COUNT) {
+        return Err(format!(
+            "no line was refused with {number}: the scripts try too little"
+        ));
+    }
     let refusals = tally.refusals.iter().enumerate().skip(1);
     let refusals: Vec<String> = refusals
         .map(|(number, count)| format!("{number}: {count}"))
