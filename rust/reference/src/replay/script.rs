@@ -81,27 +81,25 @@ impl Sent {
     }
 }
 
-/// A sensor report and its words.
-pub struct Report<'a> {
+/// A sensor report.
+pub struct Report {
     pub place: Place,
     pub temperature: u8,
     pub faults: u32,
-    /// The words behind `sensor`.
-    pub words: [&'a [u8]; 3],
 }
 
 /// What a line says.
-pub enum Line<'a> {
+pub enum Line {
     Nothing,
     Telegram(Sent),
-    Sensor(Report<'a>),
+    Sensor(Report),
 }
 
-impl<'a> Line<'a> {
+impl Line {
     /// Takes the first line off a text; nothing if it says nothing known or is
     /// too long.
     #[inline]
-    pub fn take(text: &mut &'a [u8]) -> Option<Line<'a>> {
+    pub fn take(text: &mut &[u8]) -> Option<Line> {
         let (mut bytes, mut count) = ([0; KEPT], 0);
         let mut report = None;
         let mut left = *text;
@@ -148,15 +146,14 @@ fn split_line(text: &[u8]) -> (&[u8], &[u8]) {
 }
 
 /// Reads `sensor PLACE TEMP FAULTS`.
-fn read_report(line: &[u8]) -> Option<Report<'_>> {
+fn read_report(line: &[u8]) -> Option<Report> {
     let text = line.split(|&byte| byte == b'#').next()?;
     let words = text.split(|byte| matches!(byte, b' ' | b'\t' | b'\r'));
     let mut words = words.filter(|word| !word.is_empty());
     let mut next = || words.next();
-    let (b"sensor", words) = (next()?, [next()?, next()?, next()?]) else {
+    let (b"sensor", [place, temperature, faults]) = (next()?, [next()?, next()?, next()?]) else {
         return None;
     };
-    let [place, temperature, faults] = words;
     if next().is_some() {
         return None;
     }
@@ -164,7 +161,6 @@ fn read_report(line: &[u8]) -> Option<Report<'_>> {
         place: Place(number(place)?),
         temperature: byte(temperature)?,
         faults: number(faults)?,
-        words,
     })
 }
 
@@ -173,7 +169,7 @@ mod tests {
     use super::*;
 
     /// What a line says that stands alone, and before a line feed.
-    fn parse(line: &[u8]) -> Option<Line<'_>> {
+    fn parse(line: &[u8]) -> Option<Line> {
         let text = [line, b"\nA0"].concat();
         let mut left = &text[..];
         let taken = Line::take(&mut left).is_some();

@@ -71,7 +71,7 @@ fn reports_are_printed_as_on_the_page() {
     let wanted = "\
 sensor 8 6B 5                           place 8: temperature 6B, sets LOS UV
 sensor 9 6B 0                           line 3: refused 13: no lamp at that place
-sensor 0 6b 08                          line 4: refused 10: builder field, PWM duty or fault number out of range, or payload length not listed
+sensor 0 6B 8                           line 4: refused 10: builder field, PWM duty or fault number out of range, or payload length not listed
 ";
     assert_eq!(lines(text(9), script), (wanted.to_string(), 2));
 }

@@ -39,11 +39,12 @@ pub fn telegram(page: &mut Page, line: u64, sent: &Sent, outcome: &Result<Exchan
 /// A sensor report.
 pub fn sensor(page: &mut Page, line: u64, report: &Report, outcome: Result<(), Refusal>) {
     let words_at = page.len() + COLUMN;
-    page.text("sensor");
-    for word in report.words {
-        page.text(" ");
-        page.raw(word);
-    }
+    page.text("sensor ");
+    page.decimal(report.place.0);
+    page.text(" ");
+    page.raw(&hex(report.temperature));
+    page.text(" ");
+    page.decimal(report.faults);
     page.pad(words_at);
     if let Err(refusal) = outcome {
         return refused(page, line, refusal);
