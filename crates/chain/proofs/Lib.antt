@@ -1,5 +1,6 @@
 pub mod Slots
 pub mod Records
+pub mod Changes
 pub mod Strides
 pub mod Exits
 pub mod Responding

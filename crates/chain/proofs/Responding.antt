@@ -2,15 +2,17 @@
 -- Assumes nothing.
 use mathlib.Core.Path.{_≡_, refl, sym, ap, ap₂, _∙_}
 use mathlib.Core.Logic.{_≢_}
-use mathlib.Core.Bool.{Bool, true, false, cond, not, _&&_, _||_}
+use mathlib.Core.Bool.{Bool, true, false, cond}
 use mathlib.Core.List.{List, [], _∷_}
-use Prim.Native.Nat.{ℕ, suc, _+_, _-_, _≤_, _<_}
+use Prim.Native.Nat.{ℕ, _+_, _-_, _%_, _≤_, _<_}
 use native.Mathlib.Omega.{arith}
-use lib.Dec.{eqb, leb, ltb}
+use lib.Dec.{eqb, ltb}
 use lib.ListN.{length, getD, set}
 use borrow.Author.Tests.{lt-ltb, le-ltb, eq-eqb, ne-eqb}
 use Rattle.telegram.specs.Numbers.{Outcome, refused, done, refuse, counted, front, leaves}
-use Rattle.telegram.specs.Telegram.{Bytes}
+use Rattle.telegram.specs.Telegram.{Bytes, reading}
+use Rattle.telegram.specs.declared.Telegram.{Telegram}
+use Rattle.telegram.proofs.Reading.{framed, accepted}
 use Rattle.telegram.specs.declared.Address.{Address}
 use Rattle.command.specs.Casts.{castInRange}
 use Rattle.command.specs.Commands.{Message, Sent, dissecting}
@@ -21,17 +23,15 @@ use Rattle.command.proofs.Destinations.{reached as in-range}
 use Rattle.rules.specs.declared.Place.{Place}
 use Rattle.rules.specs.declared.Defaults.{Defaults}
 use Rattle.rules.specs.declared.Lamp.{Lamp}
-use Rattle.rules.specs.Lamp.{uninitialized, changed, acted, answered, report, numberedAs, withCE}
+use Rattle.rules.specs.Lamp.{acted, answered, report, numberedAs, withCE}
 use Rattle.rules.specs.Chain.{withLamps, Step, Walked, walk, taken, reaching, isInit, visiting, permitting, anyUnaddressed, responding, delivering, deliver, answerFrom}
-use Rattle.lamp.specs.Reactions.{altered}
 use Rattle.chain.specs.Record.{countOf, lampsIn, decode, hold, chainIn}
-use Rattle.chain.specs.Places.{lampAt, withLamp, sweep, reached, ordered, placeFrom, heldAfter}
+use Rattle.chain.specs.Places.{lampAt, withLamp, sweep, actedIn, placeFrom, heldAfter}
 use Rattle.chain.specs.Memory.{Left, delivered}
 use Rattle.chain.specs.Helpers.{respondedIn, refusedIn, reachedIn, initOf, castOf}
 use Rattle.chain.specs.declared.Found.the-variants.{At, Nobody}
 use Rattle.chain.specs.declared.Reach.{Reach}
 use Rattle.chain.specs.declared.Reach.the-variants.{Everyone as All, Members}
-use Rattle.chain.specs.declared.Order.{Order}
 use Rattle.chain.proofs.Records.{Valid, eachFrom, length-lampsIn, getD-lampsIn, hold-decode, hold-set, hold-each, hold-at, rest, rest-all, rest-more, length-each}
 use Rattle.chain.proofs.Strides.{walk-everyone, walk-group, walk-nobody, walk-found, walk-init, walk-init-all}
 
@@ -76,28 +76,6 @@ module _ (mem room : List ℕ) {w : Walked} {xs : List Lamp} where
         lent = sym (ap (λ (x : Walked). leaves (x .outcome) room) e);
       }
 
--- Two rules that agree at each lamp.
-each-alike : (f g : ℕ → Lamp → Lamp) → ((p : ℕ) (l : Lamp) → f p l ≡ g p l) → (p : ℕ) (xs : List Lamp) → eachFrom f p xs ≡ eachFrom g p xs
-unfolding eachFrom
-each-alike f g h p [] = refl
-each-alike f g h p (x ∷ xs) = ap₂ (λ (y : Lamp) (ys : List Lamp). y ∷ ys) (h p x) (each-alike f g h (suc p) xs)
-
--- An order for the lamps that a command reaches does what the command does.
-pub record OrderFor (m : Message) (reach : Reach) (o : Order) : Type 0 where
-  pub always : o .always ≡ leb (m .number) 0x01
-  pub same : o .reach ≡ reach
-  pub change : (d : Defaults) (l : Lamp) → altered d (o .change) l ≡ changed d m l
-
-pick-both : (a b : Bool) (x y : Lamp) → cond (a && b) x y ≡ cond a (cond b x y) y
-pick-both true b x y = refl
-pick-both false b x y = refl
-
-pub ordered-acts : (m : Message) (reach : Reach) (o : Order) → OrderFor m reach o → (d : Defaults) (l : Lamp)
-    → ordered d o l ≡ cond (reached reach l) (acted d m l) l
-unfolding acted
-ordered-acts m reach o h d l =
-    rw (h .always, h .same, h .change d l) (pick-both (reached reach l) (not (uninitialized (l .state)) || leb (m .number) 0x01) (changed d m l) l)
-
 -- An init visits each lamp by its number and its cast alone.
 visits-alike : (d : Defaults) (n : ℕ) (m : Message) (cast : Cast) → isInit (m .number) ≡ true
     → visiting d n (record { message = m; cast = cast }) ≡ visiting d n (initOf (m .number) cast)
@@ -114,24 +92,19 @@ module _ (mem : List ℕ) (b : Bytes mem) (v : Valid mem (decode mem)) where
   pub held-same : mem ≡ hold mem (withLamps (decode mem) (decode mem .lamps))
   held-same = sym (hold-decode mem b (v .room))
 
-  -- Everyone and a group: the order for each lamp is the walk.
-  pub spread-held : (m : Message) (reach : Reach) (o : Order) → OrderFor m reach o
-      → sweep (λ (p : ℕ) (l : Lamp). ordered (decode mem .defaults) o l) 0 (countOf mem) mem ≡ heldAfter mem (reachedIn mem m (castOf reach))
+  -- Everyone and a group: what each lamp does is the walk.
+  pub spread-held : (m : Message) (reach : Reach)
+      → sweep (λ (p : ℕ) (l : Lamp). actedIn reach (decode mem .defaults) m l) 0 (countOf mem) mem ≡ heldAfter mem (reachedIn mem m (castOf reach))
   unfolding heldAfter reachedIn decode
-  spread-held m reach o h =
-      let d = decode mem .defaults in
-      let xs = lampsIn (countOf mem) mem in
-      let rule : ℕ → Lamp → Lamp = λ (p : ℕ) (l : Lamp). ordered d o l in
-      hold-each mem b (v .room) rule
-      ∙ ap (λ (ys : List Lamp). hold mem (withLamps (decode mem) ys)) (by reach h)
+  spread-held m reach =
+      hold-each mem b (v .room) (λ (p : ℕ) (l : Lamp). actedIn reach (decode mem .defaults) m l)
+      ∙ ap (λ (ys : List Lamp). hold mem (withLamps (decode mem) ys)) (by reach)
     where
-      by : (r : Reach) → OrderFor m r o
-          → eachFrom (λ (p : ℕ) (l : Lamp). ordered (decode mem .defaults) o l) 0 (lampsIn (countOf mem) mem)
+      by : (r : Reach)
+          → eachFrom (λ (p : ℕ) (l : Lamp). actedIn r (decode mem .defaults) m l) 0 (lampsIn (countOf mem) mem)
           ≡ walk (reaching (decode mem .defaults) m (castOf r)) 0 (lampsIn (countOf mem) mem) .lamps
-      by All k = each-alike _ _ (λ p l. ordered-acts m All o k (decode mem .defaults) l) 0 (lampsIn (countOf mem) mem)
-          ∙ sym (ap (λ (w : Walked). w .lamps) (walk-everyone (decode mem .defaults) m 0 (lampsIn (countOf mem) mem)))
-      by (Members g) k = each-alike _ _ (λ p l. ordered-acts m (Members g) o k (decode mem .defaults) l) 0 (lampsIn (countOf mem) mem)
-          ∙ sym (ap (λ (w : Walked). w .lamps) (walk-group (decode mem .defaults) m 0 (lampsIn (countOf mem) mem) g))
+      by All = sym (ap (λ (w : Walked). w .lamps) (walk-everyone (decode mem .defaults) m 0 (lampsIn (countOf mem) mem)))
+      by (Members g) = sym (ap (λ (w : Walked). w .lamps) (walk-group (decode mem .defaults) m 0 (lampsIn (countOf mem) mem) g))
 
   -- Unicast: nobody has the address ..
   pub unicast-nobody : (m : Message) (a : Address) (room : List ℕ) → placeFrom 0 (a .0) (lampsIn (countOf mem) mem) ≡ Nobody
@@ -140,20 +113,20 @@ module _ (mem : List ℕ) (b : Bytes mem) (v : Valid mem (decode mem)) where
   unicast-nobody m a room e =
       walks-done mem room (walk-nobody (decode mem .defaults) m a (lampsIn (countOf mem) mem) 0 e) refl held-same refl
 
-  -- .. or the lamp at the place that was found takes the order and answers.
+  -- .. or the lamp at the place that was found acts and answers.
   module _ (m : Message) (a : Address) (q : Place) (e : placeFrom 0 (a .0) (lampsIn (countOf mem) mem) ≡ At q) where
     pub found-in : q .0 < countOf mem
     found-in =
         let h : q .0 < length (lampsIn (countOf mem) mem) = walk-found (decode mem .defaults) m a (lampsIn (countOf mem) mem) q e (lampAt mem 0) .0 in
         rw length-lampsIn at h
 
-    pub unicast-found : (room : List ℕ) (o : Order) → OrderFor m All o → {mem′ room′ p : List ℕ} {r : Outcome ℕ}
-        → mem′ ≡ withLamp mem (q .0) (ordered (decode mem .defaults) o (lampAt mem (q .0)))
+    pub unicast-found : (room : List ℕ) {mem′ room′ p : List ℕ} {r : Outcome ℕ}
+        → mem′ ≡ withLamp mem (q .0) (acted (decode mem .defaults) m (lampAt mem (q .0)))
         → p ≡ answered (m .number) (lampAt mem (q .0))
         → r ≡ counted (done (answerFrom (a .0) (m .number) p)) → room′ ≡ front (answerFrom (a .0) (m .number) p) room
         → Walks mem room (reachedIn mem m (One a)) r mem′ room′
     unfolding reachedIn decode
-    unicast-found room o h em ep er eo =
+    unicast-found room em ep er eo =
         let d = decode mem .defaults in
         let n = countOf mem in
         let y = lampAt mem (q .0) in
@@ -161,7 +134,7 @@ module _ (mem : List ℕ) (b : Bytes mem) (v : Valid mem (decode mem)) where
         let g = getD-lampsIn (q .0) n mem y found-in in
         walks-done mem room w
         (er ∙ ap (λ (p : List ℕ). counted (done (answerFrom (a .0) (m .number) p))) (ep ∙ ap (answered (m .number)) (sym g)))
-        (em ∙ ap (withLamp mem (q .0)) (ordered-acts m All o h d y ∙ ap (acted d m) (sym g))
+        (em ∙ ap (withLamp mem (q .0)) (ap (acted d m) (sym g))
         ∙ hold-set mem b (v .room) (q .0) (acted d m (getD (lampsIn n mem) (q .0) y)) found-in)
         (eo ∙ ap (λ (p : List ℕ). front (answerFrom (a .0) (m .number) p) room) (ep ∙ ap (answered (m .number)) (sym g)))
 
@@ -286,10 +259,11 @@ accepted-cast s t e =
     let d = dissected s e in
     in-range (d .0 .address .0) (t .cast) (named s (d .0) t (d .1 .1) .to) .range
 
--- The order that the code makes for a command.
-pub order-for : (m : Message) (reach : Reach) (o : Order) {n : ℕ} → m .number ≡ n → (o .always ≡ leb n 0x01) × (o .reach ≡ reach)
-    → ((d : Defaults) (l : Lamp) → altered d (o .change) l ≡ changed d m l) → OrderFor m reach o
-order-for m reach o e h c = record { always = h .0 ∙ ap (λ (k : ℕ). leb k 0x01) (sym e); same = h .1; change = c }
+-- What the reader accepts has a number that an answer may have.
+pub accepted-number : (s : List ℕ) (t : Telegram) → reading s ≡ done t → t .command ≤ 127
+accepted-number s t e =
+    let f : getD s 2 0 % 128 ≡ t .command = ap (λ (x : Telegram). x .command) (framed s t (accepted s t e .0) .fields) in
+    omega arith
 
 -- A command for everyone or a group is done without an answer.
 quiet : (mem : List ℕ) (m : Message) (r : Reach) → reachedIn mem m (castOf r) .outcome ≡ done []

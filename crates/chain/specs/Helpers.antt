@@ -3,13 +3,10 @@
 use Prim.Native.Nat.{ℕ}
 use mathlib.Core.List.{List, []}
 use Rattle.telegram.specs.Numbers.{refused, done}
-use Rattle.telegram.specs.declared.Refusal.{Refusal}
-use Rattle.telegram.specs.declared.Refusal.the-variants.{TooShort}
+use Rattle.command.specs.Fields.{layoutOf, fieldsBy}
 use Rattle.command.specs.Commands.{Message, Sent, numbered}
 use Rattle.command.specs.declared.Cast.{Cast}
 use Rattle.command.specs.declared.Cast.the-variants.{Everyone, Group}
-use Rattle.command.specs.declared.Dissection.{Dissection}
-use Rattle.command.specs.declared.Dissection.the-variants.{Accepted, Refused as NotAccepted}
 use Rattle.rules.specs.Chain.{Walked, walk, reaching, responding}
 use Rattle.chain.specs.Record.{decode}
 use Rattle.chain.specs.declared.Reach.{Reach}
@@ -23,12 +20,15 @@ respondedIn mem t = responding (decode mem .defaults) (decode mem .lamps) (done 
 abbrev pub initOf : ℕ → Cast → Sent
 initOf k cast = record { message = numbered k []; cast = cast }
 
--- The refusal that the dissector's answer holds. (An accepted telegram holds none; of it this gives 1.)
-abbrev pub refusalIn : Dissection → Refusal
-refusalIn (NotAccepted e) = e
-refusalIn (Accepted t) = TooShort
+-- The command of a number with the bytes of its payload ..
+abbrev pub commandIn : ℕ → List ℕ → Message
+commandIn n p = numbered n (fieldsBy (layoutOf n) p)
 
--- The cast of which an order's reach is made.
+-- .. and the same sent to a cast.
+abbrev pub sentIn : ℕ → List ℕ → Cast → Sent
+sentIn n p cast = record { message = commandIn n p; cast = cast }
+
+-- The cast of which a reach is made.
 abbrev pub castOf : Reach → Cast
 castOf ReachEveryone = Everyone
 castOf (Members g) = Group g

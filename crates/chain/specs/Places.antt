@@ -1,21 +1,32 @@
 -- The lamps of a record, place by place, as the code reads and writes them.
 -- Assumes nothing.
 use Prim.Native.Nat.{ℕ, zero, suc, _+_}
-use mathlib.Core.Bool.{Bool, true, cond, not, _&&_, _||_}
+use mathlib.Core.Bool.{Bool, true, cond}
 use mathlib.Core.List.{List, [], _∷_, _++_}
 use lib.Dec.{eqb, ltb}
-use lib.ListN.{take, drop}
+use lib.ListN.{getD, take, drop}
+use Rattle.command.specs.Fields.{wordAt}
+use Rattle.command.specs.Commands.{Message}
 use Rattle.rules.specs.declared.Defaults.{Defaults}
+use Rattle.rules.specs.declared.State.{State}
+use Rattle.rules.specs.declared.Thresholds.{Thresholds}
+use Rattle.rules.specs.declared.Words.{Words}
 use Rattle.rules.specs.declared.Lamp.{Lamp}
-use Rattle.rules.specs.Lamp.{member, uninitialized}
+use Rattle.rules.specs.Lamp.{withState, obeys, acted, member}
 use Rattle.rules.specs.Chain.{Walked, withLamps}
-use Rattle.lamp.specs.Reactions.{altered}
 use Rattle.chain.specs.Record.{slotAt, slotSize, lampOf, slotOf, decode, hold}
 use Rattle.chain.specs.declared.Reach.{Reach}
 use Rattle.chain.specs.declared.Reach.the-variants.{Everyone, Members}
-use Rattle.chain.specs.declared.Order.{Order}
 use Rattle.chain.specs.declared.Found.{Found}
 use Rattle.chain.specs.declared.Found.the-variants.{At, Nobody}
+
+-- The three PWM words from an index on.
+abbrev pub wordsAt : List ℕ → ℕ → Words
+wordsAt s i = record { red = wordAt s i; green = wordAt s (i + 2); blue = wordAt s (i + 4) }
+
+-- The three thresholds from an index on.
+abbrev pub thresholdsAt : List ℕ → ℕ → Thresholds
+thresholdsAt s i = record { cycle = getD s i 0; low = getD s (i + 1) 0; high = getD s (i + 2) 0 }
 
 -- The lamp at place p of memory.
 unfoldable pub lampAt : List ℕ → ℕ → Lamp
@@ -30,7 +41,7 @@ unfoldable pub sweep : (ℕ → Lamp → Lamp) → ℕ → ℕ → List ℕ → 
 sweep rule p zero mem = mem
 sweep rule p (suc n) mem = sweep rule (suc p) n (withLamp mem p (rule p (lampAt mem p)))
 
--- The lamps that an order reaches: everyone, or the members of a group.
+-- The lamps that a command reaches: everyone, or the members of a group.
 abbrev pub reached : Reach → Lamp → Bool
 reached Everyone l = true
 reached (Members g) l = member g l
@@ -40,17 +51,13 @@ abbrev pub reachFits : Reach → Bool
 reachFits Everyone = true
 reachFits (Members g) = ltb g 16
 
--- A lamp heeds an order that reaches it, in UNINITIALIZED only one that is always obeyed.
-abbrev pub heeded : Order → Lamp → Bool
-heeded o l = reached (o .reach) l && (not (uninitialized (l .state)) || o .always)
+-- A lamp after a command for those that a reach has.
+abbrev pub actedIn : Reach → Defaults → Message → Lamp → Lamp
+actedIn reach d m l = cond (reached reach l) (acted d m l) l
 
--- A lamp after a change for everyone.
-abbrev pub ifHeeds : Bool → (Lamp → Lamp) → Lamp → Lamp
-ifHeeds always rule l = cond (not (uninitialized (l .state)) || always) (rule l) l
-
--- A lamp after an order.
-abbrev pub ordered : Defaults → Order → Lamp → Lamp
-ordered d o l = cond (heeded o l) (altered d (o .change) l) l
+-- A lamp after a GO command, which UNINITIALIZED does not obey.
+abbrev pub gone : State → Lamp → Lamp
+gone s l = cond (obeys 0x04 (l .state)) (withState s l) l
 
 -- The lookup: the place of the first lamp with an address, from place p on.
 unfoldable pub placeFrom : ℕ → ℕ → List Lamp → Found

@@ -1,10 +1,7 @@
 // A chain of lamps in lent bytes (docs/RECORD.md): made, given telegrams and sensor reports, read out. Document 01, "A lamp and the
 // chain".
 use command::Cast;
-use command::Command;
-use command::Dissected;
-use command::Dissection;
-use lamp::Change;
+use command::Heading;
 use lamp::Payload;
 use rules::Defaults;
 use rules::Flags;
@@ -15,27 +12,27 @@ use rules::Thresholds;
 use rules::Words;
 use telegram::Address;
 use telegram::Built;
+use telegram::Read;
 use telegram::Refusal;
 ghost use mathlib.Core.Path.{_≡_};
-ghost use mathlib.Core.Bool.{true, not, _&&_, _||_, cond};
+ghost use mathlib.Core.Bool.{true, cond};
 ghost use mathlib.Core.List.{_++_};
 ghost use Prim.Native.Nat.{ℕ, _+_, _*_, _/_, _%_, _-_, _^_, _≤_, _<_};
-ghost use lib.Dec.{eqb, leb};
+ghost use lib.Dec.{eqb};
 ghost use lib.ListN.{length, take, drop};
 ghost use Rattle.telegram.specs.Numbers.{refused, done, numberOf, builtAs, counted, front, leaves};
 ghost use Rattle.telegram.specs.Telegram.{listed};
-ghost use Rattle.command.specs.Commands.{messageOf, sentAs};
+ghost use Rattle.command.specs.Commands.{payloadSizeOf};
 ghost use Rattle.command.specs.Casts.{castInRange};
+ghost use Rattle.command.specs.Fields.{wordAt};
 ghost use Rattle.command.specs.declared.Cast.the-variants.{Everyone, One};
 ghost use Rattle.rules.specs.declared.Lamp.{Lamp as LampType};
-ghost use Rattle.rules.specs.declared.Defaults.{Defaults as DefaultsType};
-ghost use Rattle.rules.specs.Lamp.{numberedAs, sensed, changed, uninitialized, withCE, withState, report, withPwm};
+ghost use Rattle.rules.specs.Lamp.{numberedAs, sensed, changed, acted, obeys, withCE, withState, withFlags, withGroups, withThresholds, withSetup, withPwm, report};
 ghost use Rattle.rules.specs.Chain.{addressRight, addressesRight, anyUnaddressed, answerFrom, isInit};
-ghost use Rattle.lamp.specs.Reactions.{altered};
 ghost use Rattle.chain.specs.Record.{slotAt, slotSize, stateIn, directionIn, flagsIn, lampOf, slotOf, headerOf, headerSize, countOf, defaultsOf, lampsIn, decode, chainIn};
-ghost use Rattle.chain.specs.Places.{lampAt, withLamp, sweep, ifHeeds, reached, reachFits, heeded, ordered, placeFrom, heldAfter};
+ghost use Rattle.chain.specs.Places.{wordsAt, thresholdsAt, lampAt, withLamp, sweep, reached, reachFits, actedIn, gone, placeFrom, heldAfter};
 ghost use Rattle.chain.specs.Memory.{deliveredAs, lampReadAs, delivered, held, silent, made, sensedIn, lampRead};
-ghost use Rattle.chain.specs.Helpers.{respondedIn, refusedIn, reachedIn, initOf, refusalIn, castOf};
+ghost use Rattle.chain.specs.Helpers.{respondedIn, refusedIn, reachedIn, initOf, commandIn, sentIn, castOf};
 
 // What a call on a chain answers: done, with the number of bytes that the answer has, or refused.
 pub enum Delivered {
@@ -55,17 +52,10 @@ pub enum Found {
     Nobody,
 }
 
-// Which lamps an order reaches.
+// Which lamps a command for more than one reaches.
 pub enum Reach {
     Everyone,
     Members(u8),
-}
-
-// A change for the lamps that are reached; a lamp in UNINITIALIZED heeds it only if it is always obeyed.
-pub struct Order {
-    pub change: Change,
-    pub always: bool,
-    pub reach: Reach,
 }
 
 // The state in a status byte.
@@ -93,15 +83,37 @@ fn flags_in(b: u8) -> Flags
     }
 }
 
-// The three PWM words of a slot.
-fn words_in(s: &[u8]) -> Words
-    requires { ⌜ 16 ≤ length (now s) ⌝ }
-    ensures { λ r. ⌜ r ≡ lampOf (now (s .entry)) .pwm ⌝ }
+// The word at an index.
+fn word_at(s: &[u8], i: usize) -> u16
+    requires { ⌜ i + 1 < length (now s) ⌝ }
+    ensures { λ r. ⌜ r ≡ wordAt (now (s .entry)) i ⌝ }
+{
+    let high = s[i];
+    let low = s[i + 1];
+    bits::word(high, low)
+}
+
+// The three PWM words from an index on.
+fn words_at(s: &[u8], i: usize) -> Words
+    requires { ⌜ i + 5 < length (now s) ⌝ }
+    ensures { λ r. ⌜ r ≡ wordsAt (now (s .entry)) i ⌝ }
 {
     Words {
-        red: bits::word(s[10], s[11]),
-        green: bits::word(s[12], s[13]),
-        blue: bits::word(s[14], s[15]),
+        red: word_at(s, i),
+        green: word_at(s, i + 2),
+        blue: word_at(s, i + 4),
+    }
+}
+
+// The three thresholds from an index on.
+fn thresholds_at(s: &[u8], i: usize) -> Thresholds
+    requires { ⌜ i + 2 < length (now s) ⌝ }
+    ensures { λ r. ⌜ r ≡ thresholdsAt (now (s .entry)) i ⌝ }
+{
+    Thresholds {
+        cycle: s[i],
+        low: s[i + 1],
+        high: s[i + 2],
     }
 }
 
@@ -111,20 +123,17 @@ fn lamp_of(s: &[u8]) -> Lamp
     ensures { λ r. ⌜ r ≡ lampOf (now (s .entry)) ⌝ }
 {
     let b = s[2];
-    let pwm = words_in(s);
+    let thresholds = thresholds_at(s, 4);
+    let pwm = words_at(s, 10);
     Lamp {
-        address: Address(bits::word(s[0], s[1])),
+        address: Address(word_at(s, 0)),
         state: state_in(b),
         direction: b / 16 % 2 == 1,
         flags: flags_in(b),
         temperature: s[3],
-        thresholds: Thresholds {
-            cycle: s[4],
-            low: s[5],
-            high: s[6],
-        },
+        thresholds,
         setup: s[7],
-        groups: bits::word(s[8], s[9]),
+        groups: word_at(s, 8),
         pwm,
     }
 }
@@ -220,36 +229,79 @@ fn with_state(l: Lamp, state: State) -> Lamp
     }
 }
 
-// Changes the lamp at a place.
-fn alter(mem: &mut [u8], p: Place, d: Defaults, change: Change)
-    requires { ⌜ slotAt (p .0) + slotSize ≤ length (now mem) ⌝ }
-    ensures { λ _. ⌜ now (mem .exit) ≡ withLamp (now (mem .entry)) (p .0) (altered d change (lampAt (now (mem .entry)) (p .0))) ⌝ }
+// A lamp with other flags, with another group word, with other thresholds, with another setup byte, with other PWM words.
+fn with_flags(l: Lamp, flags: Flags) -> Lamp
+    ensures { λ r. ⌜ r ≡ withFlags flags l ⌝ }
 {
-    let mut l = load_lamp(mem, p);
-    match change {
-        Change::Nothing => {}
-        Change::Reset => store_lamp(mem, p, lamp::blank_lamp(d, l.temperature)),
-        Change::ClearFlags => {
-            l.flags = lamp::no_flags();
-            store_lamp(mem, p, l);
-        }
-        Change::Go(s) => store_lamp(mem, p, with_state(l, s)),
-        Change::Groups(w) => {
-            l.groups = w;
-            store_lamp(mem, p, l);
-        }
-        Change::Overtemperature(t) => {
-            l.thresholds = t;
-            store_lamp(mem, p, l);
-        }
-        Change::Setup(x) => {
-            l.setup = x;
-            store_lamp(mem, p, l);
-        }
-        Change::Pwm(w) => {
-            l.pwm = w;
-            store_lamp(mem, p, l);
-        }
+    let mut x = l;
+    x.flags = flags;
+    x
+}
+
+fn with_groups(l: Lamp, groups: u16) -> Lamp
+    ensures { λ r. ⌜ r ≡ withGroups groups l ⌝ }
+{
+    let mut x = l;
+    x.groups = groups;
+    x
+}
+
+fn with_thresholds(l: Lamp, thresholds: Thresholds) -> Lamp
+    ensures { λ r. ⌜ r ≡ withThresholds thresholds l ⌝ }
+{
+    let mut x = l;
+    x.thresholds = thresholds;
+    x
+}
+
+fn with_setup(l: Lamp, setup: u8) -> Lamp
+    ensures { λ r. ⌜ r ≡ withSetup setup l ⌝ }
+{
+    let mut x = l;
+    x.setup = setup;
+    x
+}
+
+fn with_pwm(l: Lamp, pwm: Words) -> Lamp
+    ensures { λ r. ⌜ r ≡ withPwm pwm l ⌝ }
+{
+    let mut x = l;
+    x.pwm = pwm;
+    x
+}
+
+// Does what a command says to the lamp at a place. Each arm loads and stores by itself: the compiler then stores only what changes.
+fn alter(mem: &mut [u8], p: Place, d: Defaults, n: u8, payload: &[u8])
+    requires { ⌜ (slotAt (p .0) + slotSize ≤ length (now mem)) × (payloadSizeOf n ≡ done (length (now payload))) ⌝ }
+    ensures { λ _. ⌜ now (mem .exit) ≡ withLamp (now (mem .entry)) (p .0) (changed d (commandIn n (now (payload .entry))) (lampAt (now (mem .entry)) (p .0))) ⌝ }
+{
+    match n {
+        0x00 => store_lamp(mem, p, lamp::blank_lamp(d, load_lamp(mem, p).temperature)),
+        0x01 | 0x40 | 0x42 => store_lamp(mem, p, with_flags(load_lamp(mem, p), lamp::no_flags())),
+        0x04 => store_lamp(mem, p, with_state(load_lamp(mem, p), State::Sleep)),
+        0x05 => store_lamp(mem, p, with_state(load_lamp(mem, p), State::Active)),
+        0x06 => store_lamp(mem, p, with_state(load_lamp(mem, p), State::DeepSleep)),
+        0x0D => store_lamp(mem, p, with_groups(load_lamp(mem, p), word_at(payload, 0))),
+        0x4B => store_lamp(
+            mem,
+            p,
+            with_thresholds(load_lamp(mem, p), thresholds_at(payload, 0)),
+        ),
+        0x4D => store_lamp(mem, p, with_setup(load_lamp(mem, p), payload[0])),
+        0x4F => store_lamp(mem, p, with_pwm(load_lamp(mem, p), words_at(payload, 0))),
+        _ => {}
+    }
+}
+
+// Does what a command says to the lamp at a place, if the lamp obeys it.
+fn act(mem: &mut [u8], p: Place, d: Defaults, n: u8, payload: &[u8])
+    requires { ⌜ (slotAt (p .0) + slotSize ≤ length (now mem)) × (payloadSizeOf n ≡ done (length (now payload))) ⌝ }
+    ensures { λ _. ⌜ now (mem .exit) ≡ withLamp (now (mem .entry)) (p .0) (acted d (commandIn n (now (payload .entry))) (lampAt (now (mem .entry)) (p .0))) ⌝ }
+{
+    let l = load_lamp(mem, p);
+    let state = l.state;
+    if lamp::heeds(n <= 0x01, state) {
+        alter(mem, p, d, n, payload);
     }
 }
 
@@ -261,7 +313,7 @@ fn is_member(g: u8, groups: u16) -> bool
     (groups >> g) % 2 == 1
 }
 
-// Whether an order reaches a lamp.
+// Whether a command reaches a lamp.
 fn is_reached(reach: Reach, l: Lamp) -> bool
     requires { ⌜ reachFits reach ≡ true ⌝ }
     ensures { λ r. ⌜ r ≡ reached reach l ⌝ }
@@ -272,125 +324,83 @@ fn is_reached(reach: Reach, l: Lamp) -> bool
     }
 }
 
-// Whether a lamp heeds an order.
-fn is_heeded(order: Order, l: Lamp) -> bool
-    requires { ⌜ reachFits (order .reach) ≡ true ⌝ }
-    ensures { λ r. ⌜ r ≡ heeded order l ⌝ }
+// Does what a command says to the lamp at a place, if it reaches the lamp.
+fn act_reached(mem: &mut [u8], p: Place, d: Defaults, n: u8, payload: &[u8], reach: Reach)
+    requires { ⌜ (slotAt (p .0) + slotSize ≤ length (now mem)) × (payloadSizeOf n ≡ done (length (now payload))) × (reachFits reach ≡ true) ⌝ }
+    ensures { λ _. ⌜ now (mem .exit) ≡ withLamp (now (mem .entry)) (p .0) (actedIn reach d (commandIn n (now (payload .entry))) (lampAt (now (mem .entry)) (p .0))) ⌝ }
 {
-    let reach = order.reach;
-    let state = l.state;
-    bits::and(is_reached(reach, l), lamp::heeds(order.always, state))
-}
-
-// Gives an order to the lamp at a place.
-fn order_one(mem: &mut [u8], p: Place, d: Defaults, order: Order)
-    requires { ⌜ (slotAt (p .0) + slotSize ≤ length (now mem)) × (reachFits (order .reach) ≡ true) ⌝ }
-    ensures { λ _. ⌜ now (mem .exit) ≡ withLamp (now (mem .entry)) (p .0) (ordered d order (lampAt (now (mem .entry)) (p .0))) ⌝ }
-{
-    if is_heeded(order, load_lamp(mem, p)) {
-        let change = order.change;
-        alter(mem, p, d, change);
+    if is_reached(reach, load_lamp(mem, p)) {
+        act(mem, p, d, n, payload);
     }
 }
 
-// Gives an order to each lamp.
-fn order_lamps(mem: &mut [u8], count: usize, d: Defaults, order: Order)
-    requires { ⌜ (slotAt count ≤ length (now mem)) × (reachFits (order .reach) ≡ true) ⌝ }
-    ensures { λ _. ⌜ now (mem .exit) ≡ sweep (λ (p : ℕ) (l : LampType). ordered d order l) 0 count (now (mem .entry)) ⌝ }
+// Does what a command says to each lamp that it reaches.
+fn act_lamps(mem: &mut [u8], count: usize, d: Defaults, n: u8, payload: &[u8], reach: Reach)
+    requires { ⌜ (slotAt count ≤ length (now mem)) × (payloadSizeOf n ≡ done (length (now payload))) × (reachFits reach ≡ true) ⌝ }
+    ensures { λ _. ⌜ now (mem .exit) ≡ sweep (λ (p : ℕ) (l : LampType). actedIn reach d (commandIn n (now (payload .entry))) l) 0 count (now (mem .entry)) ⌝ }
 {
     let mut i: usize = 0;
     while i < count {
-        order_one(mem, Place(i), d, order);
+        act_reached(mem, Place(i), d, n, payload, reach);
         i += 1;
     }
 }
 
 // The state of a lamp that was told to go to a state.
-fn state_after(always: bool, state: State, s: State) -> State
-    ensures { λ r. ⌜ r ≡ cond (not (uninitialized state) || always) s state ⌝ }
+fn state_after(state: State, s: State) -> State
+    ensures { λ r. ⌜ r ≡ cond (obeys 0x04 state) s state ⌝ }
 {
-    if lamp::heeds(always, state) {
+    if lamp::heeds(false, state) {
         return s;
     }
     state
 }
 
 // Sets the state at a place, if the lamp heeds that. It stores either way: a loop of stores without a branch is faster.
-fn go_one(mem: &mut [u8], p: Place, always: bool, s: State)
+fn go_one(mem: &mut [u8], p: Place, s: State)
     requires { ⌜ slotAt (p .0) + slotSize ≤ length (now mem) ⌝ }
-    ensures { λ _. ⌜ now (mem .exit) ≡ withLamp (now (mem .entry)) (p .0) (ifHeeds always (withState s) (lampAt (now (mem .entry)) (p .0))) ⌝ }
+    ensures { λ _. ⌜ now (mem .exit) ≡ withLamp (now (mem .entry)) (p .0) (gone s (lampAt (now (mem .entry)) (p .0))) ⌝ }
 {
     let l = load_lamp(mem, p);
     let state = l.state;
-    store_lamp(mem, p, with_state(l, state_after(always, state, s)));
+    store_lamp(mem, p, with_state(l, state_after(state, s)));
 }
 
 // Sets the state of each lamp that heeds that.
-fn go_lamps(mem: &mut [u8], count: usize, always: bool, s: State)
+fn go_lamps(mem: &mut [u8], count: usize, s: State)
     requires { ⌜ slotAt count ≤ length (now mem) ⌝ }
-    ensures { λ _. ⌜ now (mem .exit) ≡ sweep (λ (p : ℕ) (l : LampType). ifHeeds always (withState s) l) 0 count (now (mem .entry)) ⌝ }
+    ensures { λ _. ⌜ now (mem .exit) ≡ sweep (λ (p : ℕ) (l : LampType). gone s l) 0 count (now (mem .entry)) ⌝ }
 {
     let mut i: usize = 0;
     while i < count {
-        go_one(mem, Place(i), always, s);
+        go_one(mem, Place(i), s);
         i += 1;
     }
 }
 
-// Sets the PWM words at a place, if the lamp heeds that.
-fn pwm_one(mem: &mut [u8], p: Place, always: bool, w: Words)
-    requires { ⌜ slotAt (p .0) + slotSize ≤ length (now mem) ⌝ }
-    ensures { λ _. ⌜ now (mem .exit) ≡ withLamp (now (mem .entry)) (p .0) (ifHeeds always (withPwm w) (lampAt (now (mem .entry)) (p .0))) ⌝ }
-{
-    let mut l = load_lamp(mem, p);
-    let state = l.state;
-    if lamp::heeds(always, state) {
-        l.pwm = w;
-        store_lamp(mem, p, l);
-    }
-}
-
-// Sets the PWM words of each lamp that heeds that.
-fn pwm_lamps(mem: &mut [u8], count: usize, always: bool, w: Words)
-    requires { ⌜ slotAt count ≤ length (now mem) ⌝ }
-    ensures { λ _. ⌜ now (mem .exit) ≡ sweep (λ (p : ℕ) (l : LampType). ifHeeds always (withPwm w) l) 0 count (now (mem .entry)) ⌝ }
+// Does what SETPWM says to each lamp.
+fn pwm_lamps(mem: &mut [u8], count: usize, d: Defaults, payload: &[u8])
+    requires { ⌜ (slotAt count ≤ length (now mem)) × (length (now payload) ≡ 6) ⌝ }
+    ensures { λ _. ⌜ now (mem .exit) ≡ sweep (λ (p : ℕ) (l : LampType). acted d (commandIn 0x4F (now (payload .entry))) l) 0 count (now (mem .entry)) ⌝ }
 {
     let mut i: usize = 0;
     while i < count {
-        pwm_one(mem, Place(i), always, w);
+        act(mem, Place(i), d, 0x4F, payload);
         i += 1;
     }
 }
 
-// Gives an order to everyone. The two that a board sends most, GO and SETPWM, have loops that decide nothing anew at each lamp.
-fn order_everyone(mem: &mut [u8], count: usize, d: Defaults, change: Change, always: bool)
-    requires { ⌜ slotAt count ≤ length (now mem) ⌝ }
-    ensures { λ _. ⌜ now (mem .exit) ≡ sweep (λ (p : ℕ) (l : LampType). ifHeeds always (altered d change) l) 0 count (now (mem .entry)) ⌝ }
+// Does what a command says to everyone. The two that a board sends most, GO and SETPWM, have loops that decide nothing anew at each lamp.
+fn act_everyone(mem: &mut [u8], count: usize, d: Defaults, n: u8, payload: &[u8])
+    requires { ⌜ (slotAt count ≤ length (now mem)) × (payloadSizeOf n ≡ done (length (now payload))) ⌝ }
+    ensures { λ _. ⌜ now (mem .exit) ≡ sweep (λ (p : ℕ) (l : LampType). acted d (commandIn n (now (payload .entry))) l) 0 count (now (mem .entry)) ⌝ }
 {
-    match change {
-        Change::Go(s) => go_lamps(mem, count, always, s),
-        Change::Pwm(w) => pwm_lamps(mem, count, always, w),
-        _ => {
-            let order = Order {
-                change,
-                always,
-                reach: Reach::Everyone,
-            };
-            order_lamps(mem, count, d, order);
-        }
-    }
-}
-
-// Gives an order to the lamps that it reaches.
-fn order_all(mem: &mut [u8], count: usize, d: Defaults, order: Order)
-    requires { ⌜ (slotAt count ≤ length (now mem)) × (reachFits (order .reach) ≡ true) ⌝ }
-    ensures { λ _. ⌜ now (mem .exit) ≡ sweep (λ (p : ℕ) (l : LampType). ordered d order l) 0 count (now (mem .entry)) ⌝ }
-{
-    let reach = order.reach;
-    let change = order.change;
-    match reach {
-        Reach::Everyone => order_everyone(mem, count, d, change, order.always),
-        Reach::Members(_) => order_lamps(mem, count, d, order),
+    match n {
+        0x04 => go_lamps(mem, count, State::Sleep),
+        0x05 => go_lamps(mem, count, State::Active),
+        0x06 => go_lamps(mem, count, State::DeepSleep),
+        0x4F => pwm_lamps(mem, count, d, payload),
+        _ => act_lamps(mem, count, d, n, payload, Reach::Everyone),
     }
 }
 
@@ -665,35 +675,25 @@ fn answer(a: Address, n: u8, payload: Payload, room: &mut [u8]) -> Delivered
     built_answer(built)
 }
 
-// The order for the lamps that a command reaches.
-fn order_of(command: Command, n: u8, reach: Reach) -> Order
-    ensures { λ r. ⌜ (r .always ≡ leb n 0x01) × (r .reach ≡ reach) ⌝ }
-    ensures { λ r. ⌜ ((d : DefaultsType) (l : LampType) → altered d (r .change) l ≡ changed d (messageOf command) l) ⌝ }
-{
-    Order {
-        change: lamp::change_of(command),
-        always: n <= 0x01,
-        reach,
-    }
-}
-
 // Sends a command that is no init to everyone or to a group.
-fn spread(mem: &mut [u8], command: Command, n: u8, reach: Reach)
-    requires { ⌜ (chainIn (now mem) ≡ done (decode (now mem))) × (messageOf command .number ≡ n) × (reachFits reach ≡ true) ⌝ }
-    ensures { λ _. ⌜ now (mem .exit) ≡ heldAfter (now (mem .entry)) (reachedIn (now (mem .entry)) (messageOf command) (castOf reach)) ⌝ }
+fn spread(mem: &mut [u8], n: u8, payload: &[u8], reach: Reach)
+    requires { ⌜ (chainIn (now mem) ≡ done (decode (now mem))) × (payloadSizeOf n ≡ done (length (now payload))) × (reachFits reach ≡ true) ⌝ }
+    ensures { λ _. ⌜ now (mem .exit) ≡ heldAfter (now (mem .entry)) (reachedIn (now (mem .entry)) (commandIn n (now (payload .entry))) (castOf reach)) ⌝ }
 {
     let count = count_of(mem);
     let d = defaults_of(mem);
-    let order = order_of(command, n, reach);
-    order_all(mem, count, d, order);
+    match reach {
+        Reach::Everyone => act_everyone(mem, count, d, n, payload),
+        Reach::Members(_) => act_lamps(mem, count, d, n, payload, reach),
+    }
 }
 
 // Sends a command that is no init to one lamp.
-fn unicast(mem: &mut [u8], command: Command, n: u8, a: Address, room: &mut [u8]) -> Delivered
-    requires { ⌜ (chainIn (now mem) ≡ done (decode (now mem))) × (messageOf command .number ≡ n) × (n ≤ 127) × (a .0 ≤ 1023) × (12 ≤ length (now room)) ⌝ }
-    ensures answer { λ r. ⌜ deliveredAs r ≡ counted (reachedIn (now (mem .entry)) (messageOf command) (One a) .outcome) ⌝ }
-    ensures memory { λ r. ⌜ now (mem .exit) ≡ heldAfter (now (mem .entry)) (reachedIn (now (mem .entry)) (messageOf command) (One a)) ⌝ }
-    ensures room { λ r. ⌜ now (room .exit) ≡ leaves (reachedIn (now (mem .entry)) (messageOf command) (One a) .outcome) (now (room .entry)) ⌝ }
+fn unicast(mem: &mut [u8], n: u8, payload: &[u8], a: Address, room: &mut [u8]) -> Delivered
+    requires { ⌜ (chainIn (now mem) ≡ done (decode (now mem))) × (payloadSizeOf n ≡ done (length (now payload))) × (n ≤ 127) × (a .0 ≤ 1023) × (12 ≤ length (now room)) ⌝ }
+    ensures answer { λ r. ⌜ deliveredAs r ≡ counted (reachedIn (now (mem .entry)) (commandIn n (now (payload .entry))) (One a) .outcome) ⌝ }
+    ensures memory { λ r. ⌜ now (mem .exit) ≡ heldAfter (now (mem .entry)) (reachedIn (now (mem .entry)) (commandIn n (now (payload .entry))) (One a)) ⌝ }
+    ensures room { λ r. ⌜ now (room .exit) ≡ leaves (reachedIn (now (mem .entry)) (commandIn n (now (payload .entry))) (One a) .outcome) (now (room .entry)) ⌝ }
 {
     let count = count_of(mem);
     let found = find(mem, count, a);
@@ -701,8 +701,7 @@ fn unicast(mem: &mut [u8], command: Command, n: u8, a: Address, room: &mut [u8])
         return Delivered::Done(0);
     };
     let told = answer(a, n, lamp::answer_bytes(n, load_lamp(mem, p)), room);
-    let d = defaults_of(mem);
-    order_one(mem, p, d, order_of(command, n, Reach::Everyone));
+    act(mem, p, defaults_of(mem), n, payload);
     told
 }
 
@@ -769,39 +768,25 @@ fn initialise(mem: &mut [u8], n: u8, cast: Cast, room: &mut [u8]) -> Delivered
 }
 
 // An accepted telegram. Refusals 7 for init at 000, then 12.
-fn respond(mem: &mut [u8], sent: Dissected, room: &mut [u8]) -> Delivered
-    requires { ⌜ (chainIn (now mem) ≡ done (decode (now mem))) × (castInRange (sent .cast) ≡ true) × (12 ≤ length (now room)) ⌝ }
-    ensures answer { λ r. ⌜ deliveredAs r ≡ counted (respondedIn (now (mem .entry)) (sentAs sent) .outcome) ⌝ }
-    ensures memory { λ r. ⌜ now (mem .exit) ≡ heldAfter (now (mem .entry)) (respondedIn (now (mem .entry)) (sentAs sent)) ⌝ }
-    ensures room { λ r. ⌜ now (room .exit) ≡ leaves (respondedIn (now (mem .entry)) (sentAs sent) .outcome) (now (room .entry)) ⌝ }
+fn respond(mem: &mut [u8], n: u8, payload: &[u8], cast: Cast, room: &mut [u8]) -> Delivered
+    requires { ⌜ (chainIn (now mem) ≡ done (decode (now mem))) × (payloadSizeOf n ≡ done (length (now payload))) × (n ≤ 127) × (castInRange cast ≡ true) × (12 ≤ length (now room)) ⌝ }
+    ensures answer { λ r. ⌜ deliveredAs r ≡ counted (respondedIn (now (mem .entry)) (sentIn n (now (payload .entry)) cast) .outcome) ⌝ }
+    ensures memory { λ r. ⌜ now (mem .exit) ≡ heldAfter (now (mem .entry)) (respondedIn (now (mem .entry)) (sentIn n (now (payload .entry)) cast)) ⌝ }
+    ensures room { λ r. ⌜ now (room .exit) ≡ leaves (respondedIn (now (mem .entry)) (sentIn n (now (payload .entry)) cast) .outcome) (now (room .entry)) ⌝ }
 {
-    let command = sent.command;
-    let cast = sent.cast;
-    let parts = command::command_parts(command);
-    let n = parts.number;
     if is_init(n) {
         return initialise(mem, n, cast, room);
     }
     match cast {
         Cast::Everyone => {
-            spread(mem, command, n, Reach::Everyone);
+            spread(mem, n, payload, Reach::Everyone);
             Delivered::Done(0)
         }
-        Cast::One(a) => unicast(mem, command, n, a, room),
+        Cast::One(a) => unicast(mem, n, payload, a, room),
         Cast::Group(g) => {
-            spread(mem, command, n, Reach::Members(g));
+            spread(mem, n, payload, Reach::Members(g));
             Delivered::Done(0)
         }
-    }
-}
-
-// The refusal in the dissector's answer.
-fn refusal_in(d: Dissection) -> Refusal
-    ensures { λ r. ⌜ r ≡ refusalIn d ⌝ }
-{
-    match d {
-        Dissection::Accepted(_) => Refusal::TooShort,
-        Dissection::Refused(e) => e,
     }
 }
 
@@ -829,9 +814,16 @@ pub fn deliver(mem: &mut [u8], telegram: &[u8], room: &mut [u8]) -> Delivered
     if !is_valid(mem) {
         return Delivered::Refused(Refusal::NoChain);
     }
-    let dissection = command::dissect(telegram);
-    let Dissection::Accepted(sent) = dissection else {
-        return refuse(mem, refusal_in(dissection));
+    let read = telegram::read_telegram(telegram);
+    let Read::Accepted(t) = read else {
+        return refuse(mem, telegram::refusal_of(read));
     };
-    respond(mem, sent, room)
+    let heading = command::heading_of(t);
+    match heading {
+        Heading::To(cast) => {
+            let end = 3 + t.size;
+            respond(mem, t.command, &telegram[3..end], cast, room)
+        }
+        Heading::Refused(e) => refuse(mem, e),
+    }
 }

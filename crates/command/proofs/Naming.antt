@@ -4,18 +4,21 @@
 use mathlib.Core.Path.{_≡_, sym, ap, _∙_, subst}
 use mathlib.Core.Bool.{true, false, not}
 use mathlib.Core.List.{List}
-use Prim.Native.Nat.{ℕ}
-use lib.ListN.{length}
-use borrow.Author.Tests.{eqb-true, not-false}
+use Prim.Native.Nat.{ℕ, _+_, _-_, _≤_}
+use native.Mathlib.Nat.{add-sub-cancel-left}
+use lib.ListN.{length, take, drop}
+use borrow.Author.Tests.{eq-eqb, eqb-true, not-false}
 use Rattle.telegram.specs.Numbers.{refused, done, after}
 use Rattle.telegram.specs.Telegram.{reading, payloadIn}
 use Rattle.telegram.specs.declared.Telegram.{Telegram}
 use Rattle.telegram.proofs.Outcomes.{done-one, passed, went-on}
 use Rattle.command.specs.Casts.{destination}
 use Rattle.command.specs.Fields.{layoutOf, fieldsBy}
-use Rattle.command.specs.Commands.{Message, numbered, rowOf, castListed, payloadFits, Sent, composing, fitting, naming, dissecting}
+use Rattle.command.specs.Commands.{Message, numbered, rowOf, castListed, payloadFits, payloadSizeOf, Sent, composing, headingAs, fitting, naming, dissecting}
 use Rattle.command.specs.declared.Row.{Row}
 use Rattle.command.specs.declared.Cast.{Cast}
+use Rattle.command.specs.declared.Heading.the-variants.{To}
+use Rattle.command.proofs.Table.{part-payload}
 
 module _ (s : List ℕ) (t : Telegram) where
   pub name-unknown : {n : ℕ} → rowOf (t .command) ≡ refused n → refused n ≡ naming s t
@@ -70,6 +73,20 @@ named s t m e =
       size = eqb-true (t .size) (r .payload) (not-false _ (p₂ .0));
       message = sym (ap (λ (x : Sent). x .message) q);
     }
+
+-- The part of a telegram's bytes that is the payload of what its heading names.
+module _ (s : List ℕ) (t : Telegram) (cast : Cast) (e : headingAs s t (To cast) ≡ naming s t) (h : 3 + t .size ≤ length s) where
+  pub headed-payload : payloadSizeOf (t .command) ≡ done (length (take (3 + t .size - 3) (drop 3 s)))
+  headed-payload =
+      let n = named s t _ (sym e) in
+      part-payload (t .command) (n .row) s (t .size) (n .known) (eq-eqb (t .size) (n .row .payload) (n .size)) h
+
+  pub headed-message : {m : Message} → m ≡ numbered (t .command) (fieldsBy (layoutOf (t .command)) (take (3 + t .size - 3) (drop 3 s)))
+      → done (record { message = m; cast = cast }) ≡ naming s t
+  headed-message f =
+      ap (λ (x : Message). done (record { message = x; cast = cast }))
+      (f ∙ ap (λ (k : ℕ). numbered (t .command) (fieldsBy (layoutOf (t .command)) (payloadIn s k))) (add-sub-cancel-left 3 (t .size)))
+      ∙ e
 
 module _ (s : List ℕ) where
   pub dissect-refused : {n : ℕ} → reading s ≡ refused n → refused n ≡ dissecting s

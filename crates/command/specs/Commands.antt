@@ -23,6 +23,8 @@ use Rattle.command.specs.declared.Parts.{Parts}
 use Rattle.command.specs.declared.Composed.{Composed}
 use Rattle.command.specs.declared.Composed.the-variants.{Accepted as Command-accepted, Refused as Command-refused}
 use Rattle.command.specs.declared.Dissected.{Dissected}
+use Rattle.command.specs.declared.Heading.{Heading}
+use Rattle.command.specs.declared.Heading.the-variants.{To, Refused as Heading-refused}
 use Rattle.command.specs.declared.Dissection.{Dissection}
 use Rattle.command.specs.declared.Dissection.the-variants.{Accepted, Refused}
 
@@ -121,6 +123,12 @@ sentAs d = record { message = messageOf (d .command); cast = d .cast }
 abbrev pub dissectionAs : Dissection → Outcome Sent
 dissectionAs (Accepted d) = done (sentAs d)
 dissectionAs (Refused e) = refused (numberOf e)
+
+-- What the heading of a telegram says of its bytes: the number of its refusal, or done with the command in them and its cast.
+abbrev pub headingAs : List ℕ → Telegram → Heading → Outcome Sent
+headingAs s t (To cast) =
+    done (record { message = numbered (t .command) (fieldsBy (layoutOf (t .command)) (payloadIn s (t .size))); cast = cast })
+headingAs s t (Heading-refused e) = refused (numberOf e)
 
 -- Of a row and a cast: 7 for a cast that the table doesn't list, then 8.
 abbrev pub fitting : List ℕ → Telegram → Row → Cast → Outcome Sent

@@ -5,15 +5,15 @@ use telegram::Read;
 use telegram::Refusal;
 use telegram::Telegram;
 ghost use mathlib.Core.Path.{_≡_};
-ghost use Prim.Native.Nat.{_+_, _*_, _/_, _%_, _≤_, _<_};
+ghost use Prim.Native.Nat.{ℕ, _+_, _*_, _/_, _%_, _≤_, _<_};
 ghost use mathlib.Core.Bool.{_&&_, _||_};
-ghost use mathlib.Core.List.{[], _∷_};
+ghost use mathlib.Core.List.{List, [], _∷_};
 ghost use lib.Dec.{leb};
 ghost use lib.ListN.{length};
 ghost use Rattle.telegram.specs.Numbers.{done, builtAs, counted, leaves};
 ghost use Rattle.command.specs.Casts.{destination, destinationAs, addressOf, castInRange};
 ghost use Rattle.command.specs.Fields.{octets, word as word_layout, long as long_layout, pwm as pwm_layout, wordAt, modeOf, pwmFields, layoutOf, answerLayoutOf, fieldsBy};
-ghost use Rattle.command.specs.Commands.{rowOf, entryAs, castListed, payloadFits, numbered, messageOf, dissectionAs, composedAs, composing, naming, dissecting, listsCast, buildingCommand, partsBy, laidOut, payloadSizeOf, answerSizeOf};
+ghost use Rattle.command.specs.Commands.{rowOf, entryAs, castListed, payloadFits, numbered, messageOf, dissectionAs, composedAs, composing, naming, dissecting, listsCast, buildingCommand, partsBy, laidOut, headingAs, payloadSizeOf, answerSizeOf};
 ghost use Rattle.command.specs.Answers.{answerMessageOf, answerAddress, answerLaidOut, replyAs, namingAnswer, dissectingAnswer};
 
 // The table's column of casts: all three; one lamp; a first address or everyone.
@@ -88,6 +88,12 @@ pub struct Dissected {
 // What the command dissector answers.
 pub enum Dissection {
     Accepted(Dissected),
+    Refused(Refusal),
+}
+
+// What a telegram that was read names: the cast of a command with a payload of the right size.
+pub enum Heading {
+    To(Cast),
     Refused(Refusal),
 }
 
@@ -277,32 +283,45 @@ pub fn compose(n: u8, payload: &[u8]) -> Composed
     Composed::Accepted(command_of(n, payload))
 }
 
-// What a telegram that was read names. Refusals 6, 7, 8.
-fn name_command(s: &[u8], t: Telegram) -> Dissection
-    requires { ⌜ 3 + t .size ≤ length (now s) ⌝ }
-    ensures { λ r. ⌜ dissectionAs r ≡ naming (now (s .entry)) t ⌝ }
+// The cast that a telegram which was read names, for a command of the table. Refusals 6, 7, 8.
+pub fn heading_of(t: Telegram) -> Heading
+    ensures { λ r. ⌜ ((s : List ℕ) → headingAs s t r ≡ naming s t) ⌝ }
 {
     let n = t.command;
     let entry = row_of(n);
     let Entry::Known(row) = entry else {
-        return Dissection::Refused(Refusal::UnknownCommand);
+        return Heading::Refused(Refusal::UnknownCommand);
     };
     let address = t.address;
     let destination = destination_of(address);
     let Destination::To(cast) = destination else {
-        return Dissection::Refused(Refusal::CastNotAllowed);
+        return Heading::Refused(Refusal::CastNotAllowed);
     };
     let casts = row.casts;
     if !cast_listed(casts, cast) {
-        return Dissection::Refused(Refusal::CastNotAllowed);
+        return Heading::Refused(Refusal::CastNotAllowed);
     }
     let size = t.size;
     if !payload_fits(row, size) {
-        return Dissection::Refused(Refusal::PayloadSize);
+        return Heading::Refused(Refusal::PayloadSize);
     }
-    let end = 3 + size;
-    let command = command_of(n, &s[3..end]);
-    Dissection::Accepted(Dissected { command, cast })
+    Heading::To(cast)
+}
+
+// What a telegram that was read names, with its fields. Refusals 6, 7, 8.
+fn name_command(s: &[u8], t: Telegram) -> Dissection
+    requires { ⌜ 3 + t .size ≤ length (now s) ⌝ }
+    ensures { λ r. ⌜ dissectionAs r ≡ naming (now (s .entry)) t ⌝ }
+{
+    let heading = heading_of(t);
+    match heading {
+        Heading::To(cast) => {
+            let end = 3 + t.size;
+            let command = command_of(t.command, &s[3..end]);
+            Dissection::Accepted(Dissected { command, cast })
+        }
+        Heading::Refused(e) => Dissection::Refused(e),
+    }
 }
 
 // The command dissector. Refusals 1 to 8.

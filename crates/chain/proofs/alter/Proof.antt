@@ -1,93 +1,102 @@
--- `chain::alter` meets its contract: an arm for each case.
+-- `chain::alter` meets its contract: in an arm of one number the table of changes computes at it.
 -- Assumes nothing.
-use mathlib.Core.Path.{_≡_, _∙_, ap, sym}
+use mathlib.Core.Path.{_∙_, refl, ap, ap₂, sym}
 use native.Mathlib.Omega.{arith}
-use Prim.Native.Nat.{ℕ}
-use mathlib.Core.List.{List}
-use Rattle.rules.specs.declared.Defaults.{Defaults}
-use Rattle.rules.specs.declared.Flags.{Flags}
-use Rattle.rules.specs.declared.Lamp.{Lamp}
-use Rattle.rules.specs.Lamp.{withFlags, reset, cleared, withState, withGroups, withThresholds, withSetup, withPwm}
-use Rattle.lamp.specs.declared.Change.{Change}
-use Rattle.lamp.specs.Reactions.{altered}
+use Rattle.command.specs.Fields.{layoutOf}
+use Rattle.command.specs.Commands.{rowOf, payloadSizeOf}
+use Rattle.command.proofs.Table.{sized}
+use Rattle.rules.specs.declared.State.the-variants.{Sleep, Active, DeepSleep}
+use Rattle.rules.specs.Lamp.{changed, reset, withFlags, withState, withGroups, withThresholds, withSetup, withPwm}
 use Rattle.chain.specs.Places.{lampAt, withLamp}
 use Rattle.chain.proofs.Slots.{with-self}
+use Rattle.chain.proofs.Changes.{changed-at, changed-cleared, changed-pwm, changed-not}
 use borrow.Author.Needs.{needs}
 use Rattle.chain.proofs.alter.Statement.{statement}
 use Rattle.chain.proofs.alter.Tie as tie
 
--- what is stored for a change, at a change that it is
-as-changed : (mem : List ℕ) (p : ℕ) (d : Defaults) {x y : Change} → x ≡ y
-    → withLamp mem p (altered d y (lampAt mem p)) ≡ withLamp mem p (altered d x (lampAt mem p))
-as-changed mem p d e = ap (λ (k : Change). withLamp mem p (altered d k (lampAt mem p))) (sym e)
-
 pub alter-spec : {M : Type 1} → statement M
+unfolding changed layoutOf rowOf
 alter-spec =
     tie.close
     (tie.spec
     (λ c κs. search needs)
-    (λ c. search needs)
-    (λ c. search needs)
     (λ c κs. search needs)
     (λ c κs. search needs)
-    (λ c. search needs)
     (λ c κs. search needs)
     (λ c κs. search needs)
-    (λ c. search needs)
     (λ c κs. search needs)
     (λ c κs. search needs)
-    (λ c. search needs)
     (λ c κs. search needs)
-    (λ c. search needs)
     (λ c κs. search needs)
-    (λ c. search needs)
     (λ c κs. search needs)
-    (λ c. search needs)
     (λ c κs. search needs)
-    (λ c. search needs)
-    (λ c.
-    let a = c .before .before .before .before .before .args in
-    sym (with-self (a .mem .now) (a .p .0) (λ i. omega (arith, c .before .before .before .before .slice-known .given i)) (c .before .before .before .before .before .pre))
-    ∙ as-changed (a .mem .now) (a .p .0) (a .d) (c .enum-told .given .1))
+    (λ c κs. search needs)
+    (λ c κs. search needs)
+    (λ c κs. search needs)
+    (λ c κs. search needs)
+    (λ c κs. search needs)
+    (λ c κs. search needs)
+    (λ c κs. omega (arith, sized payloadSizeOf 2 (c .before .before .before .match .keys6) refl (c .before .before .before .before .before .before .pre .1)))
+    (λ c κs. search needs)
+    (λ c κs. search needs)
+    (λ c κs. search needs)
+    (λ c κs. omega (arith, sized payloadSizeOf 3 (c .before .before .before .match .keys7) refl (c .before .before .before .before .before .before .pre .1)))
+    (λ c κs. search needs)
+    (λ c κs. search needs)
+    (λ c κs. search needs)
+    (λ c. omega (arith, sized payloadSizeOf 1 (c .before .before .before .before .match .keys8) refl (c .before .before .before .before .before .before .before .pre .1)))
+    (λ c κs. search needs)
+    (λ c κs. search needs)
+    (λ c κs. search needs)
+    (λ c κs. omega (arith, sized payloadSizeOf 6 (c .before .before .before .match .keys9) refl (c .before .before .before .before .before .before .pre .1)))
+    (λ c κs. search needs)
+    (λ c κs. search needs)
     (λ c. search needs)
     (λ c.
     let a = c .before .before .before .before .before .before .before .before .before .before .args in
-    let e = c .before .before .before .before .before .before .before .load-lamp .ensures in
-    c .before .before .store-lamp .ensures ∙ ap (withLamp (a .mem .now) (a .p .0)) (c .before .before .before .blank-lamp .ensures ∙ ap (reset (a .d)) e)
-    ∙ as-changed (a .mem .now) (a .p .0) (a .d) (c .before .before .before .before .before .enum-told2 .given .1))
-    (λ c. search needs)
-    (λ c.
-    let a = c .before .before .before .before .before .before .before .before .before .before .args in
-    let e = c .before .before .before .before .before .before .before .load-lamp .ensures in
-    c .before .before .store-lamp2 .ensures ∙ ap (withLamp (a .mem .now) (a .p .0)) (ap (λ (f : Flags). withFlags f (c .before .before .before .before .before .before .before .load-lamp .result)) (c .before .before .before .before .no-flags .ensures) ∙ ap cleared e)
-    ∙ as-changed (a .mem .now) (a .p .0) (a .d) (c .before .before .before .before .before .enum-told3 .given .1))
+    c .before .before .store-lamp .ensures
+    ∙ ap (withLamp (a .mem .now) (a .p .0)) (c .before .before .before .blank-lamp .ensures ∙ ap (reset (a .d)) (c .before .before .before .before .load-lamp .ensures) ∙ changed-at (a .d) (a .payload .now) _ (c .before .before .before .before .before .before .before .match .keys1)))
     (λ c. search needs)
     (λ c.
     let a = c .before .before .before .before .before .before .before .before .before .before .before .args in
-    let e = c .before .before .before .before .before .before .before .before .load-lamp .ensures in
-    c .before .before .store-lamp3 .ensures ∙ ap (withLamp (a .mem .now) (a .p .0)) (c .before .before .before .with-state .ensures ∙ ap (withState (c .before .before .before .before .before .before .change .given .0 .0)) e)
-    ∙ as-changed (a .mem .now) (a .p .0) (a .d) (c .before .before .before .before .before .before .change .given .1))
+    c .before .before .store-lamp2 .ensures
+    ∙ ap (withLamp (a .mem .now) (a .p .0)) (c .before .before .before .with-flags .ensures ∙ ap₂ withFlags (c .before .before .before .before .no-flags .ensures) (c .before .before .before .before .before .load-lamp2 .ensures) ∙ changed-cleared (a .d) (a .payload .now) _ (c .before .before .before .before .before .before .before .before .match .keys2)))
     (λ c. search needs)
     (λ c.
     let a = c .before .before .before .before .before .before .before .before .before .before .args in
-    let e = c .before .before .before .before .before .before .before .load-lamp .ensures in
-    c .before .before .store-lamp4 .ensures ∙ ap (λ (x : Lamp). withLamp (a .mem .now) (a .p .0) (withGroups (c .before .before .before .before .before .change2 .given .0 .0) x)) e
-    ∙ as-changed (a .mem .now) (a .p .0) (a .d) (c .before .before .before .before .before .change2 .given .1))
+    c .before .before .store-lamp3 .ensures
+    ∙ ap (withLamp (a .mem .now) (a .p .0)) (c .before .before .before .with-state .ensures ∙ ap (withState Sleep) (c .before .before .before .before .load-lamp3 .ensures) ∙ changed-at (a .d) (a .payload .now) _ (c .before .before .before .before .before .before .before .match .keys3)))
     (λ c. search needs)
     (λ c.
     let a = c .before .before .before .before .before .before .before .before .before .before .args in
-    let e = c .before .before .before .before .before .before .before .load-lamp .ensures in
-    c .before .before .store-lamp5 .ensures ∙ ap (λ (x : Lamp). withLamp (a .mem .now) (a .p .0) (withThresholds (c .before .before .before .before .before .change3 .given .0 .0) x)) e
-    ∙ as-changed (a .mem .now) (a .p .0) (a .d) (c .before .before .before .before .before .change3 .given .1))
+    c .before .before .store-lamp4 .ensures
+    ∙ ap (withLamp (a .mem .now) (a .p .0)) (c .before .before .before .with-state2 .ensures ∙ ap (withState Active) (c .before .before .before .before .load-lamp4 .ensures) ∙ changed-at (a .d) (a .payload .now) _ (c .before .before .before .before .before .before .before .match .keys4)))
     (λ c. search needs)
     (λ c.
     let a = c .before .before .before .before .before .before .before .before .before .before .args in
-    let e = c .before .before .before .before .before .before .before .load-lamp .ensures in
-    c .before .before .store-lamp6 .ensures ∙ ap (λ (x : Lamp). withLamp (a .mem .now) (a .p .0) (withSetup (c .before .before .before .before .before .change4 .given .0 .0) x)) e
-    ∙ as-changed (a .mem .now) (a .p .0) (a .d) (c .before .before .before .before .before .change4 .given .1))
+    c .before .before .store-lamp5 .ensures
+    ∙ ap (withLamp (a .mem .now) (a .p .0)) (c .before .before .before .with-state3 .ensures ∙ ap (withState DeepSleep) (c .before .before .before .before .load-lamp5 .ensures) ∙ changed-at (a .d) (a .payload .now) _ (c .before .before .before .before .before .before .before .match .keys5)))
     (λ c. search needs)
     (λ c.
-    let a = c .before .before .before .before .before .before .before .before .before .before .args in
-    let e = c .before .before .before .before .before .before .before .load-lamp .ensures in
-    c .before .before .store-lamp7 .ensures ∙ ap (λ (x : Lamp). withLamp (a .mem .now) (a .p .0) (withPwm (c .before .before .before .before .before .change5 .given .0 .0) x)) e
-    ∙ as-changed (a .mem .now) (a .p .0) (a .d) (c .before .before .before .before .before .change5 .given .1)))
+    let a = c .before .before .before .before .before .before .before .before .before .before .before .args in
+    c .before .before .store-lamp6 .ensures
+    ∙ ap (withLamp (a .mem .now) (a .p .0)) (c .before .before .before .with-groups .ensures ∙ ap₂ withGroups (c .before .before .before .before .word-at .ensures) (c .before .before .before .before .before .load-lamp6 .ensures) ∙ changed-at (a .d) (a .payload .now) _ (c .before .before .before .before .before .before .before .before .match .keys6)))
+    (λ c. search needs)
+    (λ c.
+    let a = c .before .before .before .before .before .before .before .before .before .before .before .args in
+    c .before .before .store-lamp7 .ensures
+    ∙ ap (withLamp (a .mem .now) (a .p .0)) (c .before .before .before .with-thresholds .ensures ∙ ap₂ withThresholds (c .before .before .before .before .thresholds-at .ensures) (c .before .before .before .before .before .load-lamp7 .ensures) ∙ changed-at (a .d) (a .payload .now) _ (c .before .before .before .before .before .before .before .before .match .keys7)))
+    (λ c. search needs)
+    (λ c.
+    let a = c .before .before .before .before .before .before .before .before .before .before .before .args in
+    c .before .before .store-lamp8 .ensures
+    ∙ ap (withLamp (a .mem .now) (a .p .0)) (c .before .before .before .with-setup .ensures ∙ ap (withSetup _) (c .before .before .before .before .before .load-lamp8 .ensures) ∙ changed-at (a .d) (a .payload .now) _ (c .before .before .before .before .before .before .before .before .match .keys8)))
+    (λ c. search needs)
+    (λ c.
+    let a = c .before .before .before .before .before .before .before .before .before .before .before .args in
+    c .before .before .store-lamp9 .ensures
+    ∙ ap (withLamp (a .mem .now) (a .p .0)) (c .before .before .before .with-pwm .ensures ∙ ap₂ withPwm (c .before .before .before .before .words-at .ensures) (c .before .before .before .before .before .load-lamp9 .ensures) ∙ changed-pwm (a .d) (a .payload .now) (lampAt (a .mem .now) (a .p .0)) ∙ changed-at (a .d) (a .payload .now) _ (c .before .before .before .before .before .before .before .before .match .keys9)))
+    (λ c.
+    let a = c .before .before .before .args in
+    sym (with-self (a .mem .now) (a .p .0) (λ i. omega (arith, c .before .before .slice-known .given i)) (c .before .before .before .pre .0))
+    ∙ ap (withLamp (a .mem .now) (a .p .0)) (changed-not (a .d) (a .payload .now) _ (c .match .rest))))

@@ -4,17 +4,16 @@ use Prim.Native.Nat.{ℕ, _-_}
 use native.Mathlib.Omega.{arith}
 use mathlib.Core.Path.{_≡_}
 use Rattle.rules.specs.declared.Lamp.{Lamp}
-use Rattle.rules.specs.Lamp.{withState}
-use Rattle.chain.specs.Places.{ifHeeds}
+use Rattle.chain.specs.Places.{gone}
 use Rattle.chain.proofs.Records.{Swept, swept-none, swept-more, swept-all}
 use Rattle.chain.proofs.go_lamps.Statement.{statement}
 use Rattle.chain.proofs.go_lamps.Tie as tie
 
 abbrev Inv-loop : tie.InvT-loop
-Inv-loop mem₀ count always s i₀ mem i = Swept (λ (p : ℕ) (x : Lamp). ifHeeds always (withState s) x) count mem₀ i mem
+Inv-loop mem₀ count s i₀ mem i = Swept (λ (p : ℕ) (x : Lamp). gone s x) count mem₀ i mem
 
 abbrev μ-loop : tie.MeasureT-loop
-μ-loop mem₀ count always s i₀ mem i = count - i
+μ-loop mem₀ count s i₀ mem i = count - i
 
 pub go-lamps-spec : {M : Type 1} → statement M
 go-lamps-spec =

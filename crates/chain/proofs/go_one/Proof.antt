@@ -1,10 +1,9 @@
 -- `chain::go_one` meets its contract.
 -- Assumes nothing.
 use mathlib.Core.Path.{_∙_, ap}
-use mathlib.Core.Bool.{not, _||_}
 use Rattle.rules.specs.declared.State.{State}
-use Rattle.rules.specs.Lamp.{uninitialized, withState}
-use Rattle.chain.specs.Places.{withLamp, ifHeeds}
+use Rattle.rules.specs.Lamp.{obeys, withState}
+use Rattle.chain.specs.Places.{withLamp, gone}
 use Rattle.chain.proofs.Slots.{state-picked}
 use borrow.Author.Needs.{needs}
 use Rattle.chain.proofs.go_one.Statement.{statement}
@@ -24,5 +23,5 @@ go-one-spec =
     c .before .before .store-lamp .ensures
     ∙ ap (withLamp (a .mem .now) (a .p .0)) (c .before .before .before .with-state .ensures
     ∙ ap (λ (t : State). withState t (c .before .before .before .before .before .before .load-lamp .result)) (c .before .before .before .before .state-after .ensures)
-    ∙ state-picked (not (uninitialized (c .before .before .before .before .before .before .load-lamp .result .state)) || (a .always)) (a .s) (c .before .before .before .before .before .before .load-lamp .result)
-    ∙ ap (ifHeeds (a .always) (withState (a .s))) (c .before .before .before .before .before .before .load-lamp .ensures))))
+    ∙ state-picked (obeys 0x04 (c .before .before .before .before .before .before .load-lamp .result .state)) (a .s) (c .before .before .before .before .before .before .load-lamp .result)
+    ∙ ap (gone (a .s)) (c .before .before .before .before .before .before .load-lamp .ensures))))

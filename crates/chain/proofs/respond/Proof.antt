@@ -2,83 +2,65 @@
 -- Assumes nothing.
 use mathlib.Core.Path.{_≡_, _∙_, ap, refl, sym, subst}
 use mathlib.Core.Bool.{true}
-use Prim.Native.Nat.{ℕ, _≤_}
+use Prim.Native.Nat.{_≤_}
 use native.Mathlib.Omega.{arith}
 use lib.Dec.{leb}
 use borrow.Author.Tests.{leb-true, lt-ltb}
 use Rattle.command.specs.declared.Cast.{Cast}
 use Rattle.command.specs.declared.Cast.the-variants.{One, Group}
 use Rattle.command.specs.Casts.{castInRange}
-use Rattle.command.specs.Commands.{messageOf, sentAs}
-use Rattle.command.specs.declared.Parts.{Parts}
 use Rattle.command.proofs.Both.{and-right}
-use Rattle.command.proofs.Sound.{sound}
-use Rattle.rules.specs.Chain.{isInit}
 use Rattle.chain.specs.declared.Reach.the-variants.{Everyone as All, Members}
-use Rattle.chain.specs.Helpers.{respondedIn, reachedIn, initOf}
+use Rattle.chain.specs.Helpers.{respondedIn, reachedIn, commandIn, sentIn}
 use Rattle.chain.proofs.Records.{chain-in}
 use Rattle.chain.proofs.Responding.{told-as, respond-plain, respond-init, reached-done}
 use borrow.Author.Needs.{needs}
 use Rattle.chain.proofs.respond.Statement.{statement}
 use Rattle.chain.proofs.respond.Tie as tie
 
--- the command's number
-number-is : (c : tie.After-command-parts) → messageOf (c .before .before .before .args .sent .command) .number ≡ c .command-parts .result .number
-number-is c = sym (ap (λ (x : Parts). x .number) (c .command-parts .ensures))
-
-number-le : (c : tie.After-command-parts) → c .command-parts .result .number ≤ 127
-number-le c = subst (λ (n : ℕ). n ≤ 127) (number-is c) (sound (c .before .before .before .args .sent .command) .number)
-
--- whether it is an init
-init-is : (c : tie.After-is-init) → isInit (messageOf (c .before .before .before .before .args .sent .command) .number) ≡ c .is-init .result
-init-is c = ap isInit (number-is (c .before)) ∙ sym (c .is-init .ensures)
-
 -- no init: the walk by the cast
 plain : {cast : Cast} (c : tie.Else1) → let a = c .before .before .before .before .before .args in
-    a .sent .cast ≡ cast → reachedIn (a .mem .now) (messageOf (a .sent .command)) cast ≡ respondedIn (a .mem .now) (sentAs (a .sent))
+    a .cast ≡ cast → reachedIn (a .mem .now) (commandIn (a .n) (a .payload .now)) cast ≡ respondedIn (a .mem .now) (sentIn (a .n) (a .payload .now) (a .cast))
 plain c e =
     let a = c .before .before .before .before .before .args in
-    ap (reachedIn (a .mem .now) (messageOf (a .sent .command))) (sym e)
-    ∙ sym (respond-plain (a .mem .now) (λ i. omega (arith, c .before .before .before .before .slice-known .given i)) (chain-in _ _ (c .before .before .before .before .before .pre .0)) (sentAs (a .sent)) (init-is (c .before) ∙ c .if1 .left))
+    ap (reachedIn (a .mem .now) (commandIn (a .n) (a .payload .now))) (sym e)
+    ∙ sym (respond-plain (a .mem .now) (λ i. omega (arith, c .before .before .before .before .slice-known .given i)) (chain-in _ _ (c .before .before .before .before .before .pre .0)) (sentIn (a .n) (a .payload .now) (a .cast)) (sym (c .before .is-init .ensures) ∙ c .if1 .left))
 
 pub respond-spec : {M : Type 1} → statement M
 respond-spec =
     tie.close
     (tie.spec
     (λ c κs. search needs)
-    (λ c κs. search needs)
     (λ c κs.
     let p = c .before .before .before .before .before .before .before .pre in
-    (p .0, sym (c .before .before .before .is-init .ensures) ∙ c .before .before .if1 .taken, number-le (c .before .before .before .before), p .1, p .2))
+    (p .0, sym (c .before .before .before .is-init .ensures) ∙ c .before .before .if1 .taken, p .2, p .3, p .4))
     (λ c. search needs)
     (λ c. search needs)
     (λ c.
-    let s = c .before .before .before .before .before .before .before .before .before .before .before .before in
-    let a = s .args in
-    let v = chain-in _ _ (s .pre .0) in
+    let a = c .before .before .before .before .before .before .before .before .before .before .before .before .args in
     told-as (a .mem .now) (a .room .now)
-    (ap (λ (n : ℕ). respondedIn (a .mem .now) (initOf n (a .sent .cast))) (sym (number-is (c .before .before .before .before .before .before .before .before .before)))
-    ∙ sym (respond-init (a .mem .now) (λ i. omega (arith, c .before .before .before .before .before .before .before .before .before .before .before .slice-known .given i)) v (sentAs (a .sent)) (init-is (c .before .before .before .before .before .before .before .before) ∙ c .before .before .before .before .before .before .before .if1 .taken)))
+    (sym (respond-init (a .mem .now) (λ i. omega (arith, c .before .before .before .before .before .before .before .before .before .before .before .slice-known .given i)) (chain-in _ _ (c .before .before .before .before .before .before .before .before .before .before .before .before .pre .0)) (sentIn (a .n) (a .payload .now) (a .cast)) (sym (c .before .before .before .before .before .before .before .before .is-init .ensures) ∙ c .before .before .before .before .before .before .before .if1 .taken)))
     (c .before .before .before .before .initialise .ensures))
     (λ c. search needs)
-    (λ c κs. (c .before .before .before .before .before .before .before .before .pre .0, number-is (c .before .before .before .before .before), refl))
+    (λ c κs. (c .before .before .before .before .before .before .before .before .pre .0, c .before .before .before .before .before .before .before .before .pre .1, refl))
     (λ c. search needs)
     (λ c κs.
     let p = c .before .before .before .before .before .before .before .before .before .before .pre in
     let a = c .before .before .before .cast .given .0 .0 in
-    let r : castInRange (One a) ≡ true = subst (λ (x : Cast). castInRange x ≡ true) (c .before .before .before .cast .given .1) (p .1) in
+    let r : castInRange (One a) ≡ true = subst (λ (x : Cast). castInRange x ≡ true) (c .before .before .before .cast .given .1) (p .3) in
     let h : a .0 ≤ 0x3EF = leb-true (a .0) 0x3EF (and-right (leb 1 (a .0)) _ r) in
-    (p .0, number-is (c .before .before .before .before .before .before .before), number-le (c .before .before .before .before .before .before .before), omega arith, p .2))
+    (p .0, p .1, p .2, omega arith, p .4))
     (λ c. search needs)
     (λ c κs.
+    let p = c .before .before .before .before .before .before .before .before .before .pre in
     let g = c .before .before .cast2 .given .0 .0 in
-    let r : castInRange (Group g) ≡ true = subst (λ (x : Cast). castInRange x ≡ true) (c .before .before .cast2 .given .1) (c .before .before .before .before .before .before .before .before .before .pre .1) in
+    let r : castInRange (Group g) ≡ true = subst (λ (x : Cast). castInRange x ≡ true) (c .before .before .cast2 .given .1) (p .3) in
     let h : g ≤ 14 = leb-true g 14 r in
-    (c .before .before .before .before .before .before .before .before .before .pre .0, number-is (c .before .before .before .before .before .before), lt-ltb g 16 (omega arith)))
+    (p .0, p .1, lt-ltb g 16 (omega arith)))
     (λ c. search needs)
     (λ c.
     let a = c .before .before .before .before .before .before .before .before .before .before .before .args in
-    told-as (a .mem .now) (a .room .now) (plain (c .before .before .before .before .before .before) (c .before .before .before .before .enum-told .given .1)) (reached-done (a .mem .now) (messageOf (a .sent .command)) All (a .room .now) (c .before .before .spread .ensures)))
+    told-as (a .mem .now) (a .room .now) (plain (c .before .before .before .before .before .before) (c .before .before .before .before .enum-told .given .1)) (reached-done (a .mem .now) (commandIn (a .n) (a .payload .now)) All (a .room .now) (c .before .before .spread .ensures)))
     (λ c. search needs)
     (λ c. search needs)
     (λ c.
@@ -87,4 +69,4 @@ respond-spec =
     (λ c. search needs)
     (λ c.
     let a = c .before .before .before .before .before .before .before .before .before .before .before .before .args in
-    told-as (a .mem .now) (a .room .now) (plain (c .before .before .before .before .before .before .before) (c .before .before .before .before .before .cast2 .given .1)) (reached-done (a .mem .now) (messageOf (a .sent .command)) (Members (c .before .before .before .before .before .cast2 .given .0 .0)) (a .room .now) (c .before .before .spread2 .ensures))))
+    told-as (a .mem .now) (a .room .now) (plain (c .before .before .before .before .before .before .before) (c .before .before .before .before .before .cast2 .given .1)) (reached-done (a .mem .now) (commandIn (a .n) (a .payload .now)) (Members (c .before .before .before .before .before .cast2 .given .0 .0)) (a .room .now) (c .before .before .spread2 .ensures))))

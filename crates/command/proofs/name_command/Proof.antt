@@ -1,29 +1,21 @@
--- `command::name_command` meets its contract: what each `let .. else` takes apart is what the definition goes by.
+-- `command::name_command` meets its contract: the heading's refusal is passed on whole, and what it names gets its fields.
 -- Assumes nothing.
-use Prim.Native.Nat.{ℕ}
 use mathlib.Core.Path.{_≡_, _∙_, sym, ap}
-use native.Mathlib.Nat.{add-sub-cancel-left}
 use borrow.Author.Needs.{needs}
-use borrow.Author.Tests.{not-true, not-false}
 use denote.Ref.{now}
-use Rattle.telegram.specs.Numbers.{done}
-use Rattle.telegram.specs.Telegram.{payloadIn}
-use Rattle.command.specs.Casts.{destination, destinationAs}
-use Rattle.command.specs.Fields.{layoutOf, fieldsBy}
-use Rattle.command.specs.Commands.{rowOf, entryAs, numbered}
-use Rattle.command.proofs.Table.{part-payload}
-use Rattle.command.proofs.Naming.{name-unknown, name-nobody, name-cast, name-size, name-done}
+use Rattle.command.specs.Commands.{naming, headingAs}
+use Rattle.command.specs.declared.Heading.the-variants.{To}
+use Rattle.command.proofs.Naming.{headed-payload, headed-message}
 use Rattle.command.proofs.name_command.Statement.{statement}
 use Rattle.command.proofs.name_command.Tie as tie
 
--- past the first `let .. else` the number has a row
-row-is : (c : tie.After-known-told) → rowOf (c .before .before .before .before .before .args .t .command) ≡ done (c .before .entry .given .0 .0)
-row-is c = sym (c .before .before .before .row-of .ensures) ∙ ap entryAs (c .before .entry .given .1)
-
--- past the second the address is a destination
-to-is : (c : tie.After-known-told2)
-    → destination (c .before .before .before .before .before .before .before .before .before .before .args .t .address .0) ≡ done (c .before .destination .given .0 .0)
-to-is c = sym (c .before .before .before .destination-of .ensures) ∙ ap destinationAs (c .before .destination .given .1)
+-- in the first arm the heading names a cast
+heading-is : (c : tie.After-known-told) →
+    let a = c .before .before .before .before .before .args in
+    headingAs (now (a .s)) (a .t) (To (c .before .heading .given .0 .0)) ≡ naming (now (a .s)) (a .t)
+heading-is c =
+    let a = c .before .before .before .before .before .args in
+    ap (headingAs (now (a .s)) (a .t)) (sym (c .before .heading .given .1)) ∙ c .before .before .before .heading-of .ensures (now (a .s))
 
 pub name-command-spec : {M : Type 1} → statement M
 name-command-spec =
@@ -32,43 +24,12 @@ name-command-spec =
     (λ c κs. tt)
     (λ c. search needs)
     (λ c. search needs)
-    (λ c. name-unknown _ _ (sym (c .before .before .row-of .ensures) ∙ ap entryAs (c .enum-told .given .1)))
-    (λ c κs. tt)
     (λ c. search needs)
     (λ c. search needs)
+    (λ c. search needs)
+    (λ c κs. headed-payload _ _ _ (heading-is (c .before .before)) (c .before .before .before .before .before .before .before .pre))
+    (λ c. search needs)
+    (λ c. headed-message _ _ _ (heading-is (c .before .before .before)) (c .before .before .before .before .before .before .before .before .pre) (c .command-of .ensures))
     (λ c.
-    name-nobody _ _ _ (row-is (c .before .before .before .before))
-    (sym (c .before .before .destination-of .ensures) ∙ ap destinationAs (c .enum-told2 .given .1)))
-    (λ c κs. tt)
-    (λ c.
-    let d = c .before .before in
-    name-cast _ _ _ (row-is (d .before .before .before .before .before)) _ (to-is d)
-    (sym (c .before .cast-listed .ensures) ∙ not-true _ (c .if1 .taken)))
-    (λ c κs. tt)
-    (λ c.
-    let l = c .before .before in
-    let d = l .before .before in
-    name-size _ _ _ (row-is (d .before .before .before .before .before)) _ (to-is d)
-    (sym (l .before .cast-listed .ensures) ∙ not-false _ (l .if1 .left))
-    (sym (c .before .payload-fits .ensures) ∙ not-true _ (c .if2 .taken)))
-    (λ c. search needs)
-    (λ c. search needs)
-    (λ c. search needs)
-    (λ c. search needs)
-    (λ c κs.
-    let b = c .before in
-    let d = b .before .before .before .before in
-    let a = d .before .before .before .before .before .before .before .before .before .before .args in
-    part-payload _ _ (a .s .now) (a .t .size) (row-is (d .before .before .before .before .before)) (sym (b .before .payload-fits .ensures) ∙ not-false _ (b .if2 .left))
-    (d .before .before .before .before .before .before .before .before .before .before .pre))
-    (λ c.
-    let b = c .before .before in
-    let l = b .before .before in
-    let d = l .before .before in
-    let a = d .before .before .before .before .before .before .before .before .before .before .args in
-    name-done _ _ _ (row-is (d .before .before .before .before .before)) _ (to-is d)
-    (sym (l .before .cast-listed .ensures) ∙ not-false _ (l .if1 .left))
-    (sym (b .before .payload-fits .ensures) ∙ not-false _ (b .if2 .left))
-    _
-    (c .command-of .ensures
-    ∙ ap (λ (k : ℕ). numbered (a .t .command) (fieldsBy (layoutOf (a .t .command)) (payloadIn (now (a .s)) k))) (add-sub-cancel-left 3 (a .t .size)))))
+    let a = c .before .before .before .before .before .args in
+    ap (headingAs (now (a .s)) (a .t)) (sym (c .before .heading2 .given .1)) ∙ c .before .before .before .heading-of .ensures (now (a .s))))
