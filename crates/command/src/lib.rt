@@ -540,6 +540,24 @@ pub fn build_command(command: Command, cast: Cast, out: &mut [u8]) -> Built
     telegram::build_telegram(address, number, &bytes[..size], out)
 }
 
+// The command builder for SETPWM alone, which goes to every cast: nothing is left to be looked up. Refusals 10, 9.
+pub fn build_pwm(r: Pwm, g: Pwm, b: Pwm, cast: Cast, out: &mut [u8]) -> Built
+    ensures { λ x. ⌜ builtAs x ≡ counted (buildingCommand (numbered 0x4F (pwmFields r g b)) cast (length (now (out .entry)))) ⌝ }
+    ensures { λ x. ⌜ now (out .exit) ≡ leaves (buildingCommand (numbered 0x4F (pwmFields r g b)) cast (length (now (out .entry)))) (now (out .entry)) ⌝ }
+{
+    let parts = pwm_parts(0x4F, r, g, b);
+    if !cast_in_range(cast) {
+        return Built::Refused(Refusal::OutOfRange);
+    }
+    if !parts.fit {
+        return Built::Refused(Refusal::OutOfRange);
+    }
+    let size = parts.size;
+    let bytes = parts.bytes;
+    let address = Address(address_of(cast));
+    telegram::build_telegram(address, 0x4F, &bytes[..size], out)
+}
+
 // The number of four bytes, high byte first, at the front of a payload.
 fn long_at(p: &[u8]) -> u32
     requires { ⌜ 4 ≤ length (now p) ⌝ }

@@ -311,7 +311,11 @@ pub extern "C" fn osp_build_pwm(
     let r = pwm_from(modes / 4, red);
     let g = pwm_from(modes / 2, green);
     let b = pwm_from(modes, blue);
-    build_directed(Command::SetPwm(r, g, b), cast, value, out)
+    let to = cast_from(cast, value);
+    let Directed::To(cast) = to else {
+        return 10;
+    };
+    built_returned(command::build_pwm(r, g, b, cast, out))
 }
 
 // The length of the record of a chain.
