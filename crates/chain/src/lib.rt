@@ -27,7 +27,7 @@ ghost use Rattle.command.specs.Casts.{castInRange};
 ghost use Rattle.command.specs.Fields.{wordAt};
 ghost use Rattle.command.specs.declared.Cast.the-variants.{Everyone, One};
 ghost use Rattle.rules.specs.declared.Lamp.{Lamp as LampType};
-ghost use Rattle.rules.specs.Lamp.{numberedAs, sensed, changed, acted, obeys, withCE, withState, withFlags, withGroups, withThresholds, withSetup, withPwm, report};
+ghost use Rattle.rules.specs.Lamp.{numberedAs, sensed, changed, acted, obeys, withCE, withState, report};
 ghost use Rattle.rules.specs.Chain.{addressRight, addressesRight, anyUnaddressed, answerFrom, isInit};
 ghost use Rattle.chain.specs.Record.{slotAt, slotSize, stateIn, directionIn, flagsIn, lampOf, slotOf, headerOf, headerSize, countOf, defaultsOf, lampsIn, decode, chainIn};
 ghost use Rattle.chain.specs.Places.{wordsAt, thresholdsAt, lampAt, withLamp, sweep, reached, reachFits, actedIn, gone, placeFrom, heldAfter};
@@ -229,47 +229,6 @@ fn with_state(l: Lamp, state: State) -> Lamp
     }
 }
 
-// A lamp with other flags, with another group word, with other thresholds, with another setup byte, with other PWM words.
-fn with_flags(l: Lamp, flags: Flags) -> Lamp
-    ensures { λ r. ⌜ r ≡ withFlags flags l ⌝ }
-{
-    let mut x = l;
-    x.flags = flags;
-    x
-}
-
-fn with_groups(l: Lamp, groups: u16) -> Lamp
-    ensures { λ r. ⌜ r ≡ withGroups groups l ⌝ }
-{
-    let mut x = l;
-    x.groups = groups;
-    x
-}
-
-fn with_thresholds(l: Lamp, thresholds: Thresholds) -> Lamp
-    ensures { λ r. ⌜ r ≡ withThresholds thresholds l ⌝ }
-{
-    let mut x = l;
-    x.thresholds = thresholds;
-    x
-}
-
-fn with_setup(l: Lamp, setup: u8) -> Lamp
-    ensures { λ r. ⌜ r ≡ withSetup setup l ⌝ }
-{
-    let mut x = l;
-    x.setup = setup;
-    x
-}
-
-fn with_pwm(l: Lamp, pwm: Words) -> Lamp
-    ensures { λ r. ⌜ r ≡ withPwm pwm l ⌝ }
-{
-    let mut x = l;
-    x.pwm = pwm;
-    x
-}
-
 // Does what a command says to the lamp at a place. Each arm loads and stores by itself: the compiler then stores only what changes.
 fn alter(mem: &mut [u8], p: Place, d: Defaults, n: u8, payload: &[u8])
     requires { ⌜ (slotAt (p .0) + slotSize ≤ length (now mem)) × (payloadSizeOf n ≡ done (length (now payload))) ⌝ }
@@ -277,18 +236,34 @@ fn alter(mem: &mut [u8], p: Place, d: Defaults, n: u8, payload: &[u8])
 {
     match n {
         0x00 => store_lamp(mem, p, lamp::blank_lamp(d, load_lamp(mem, p).temperature)),
-        0x01 | 0x40 | 0x42 => store_lamp(mem, p, with_flags(load_lamp(mem, p), lamp::no_flags())),
+        0x01 | 0x40 | 0x42 => {
+            let mut l = load_lamp(mem, p);
+            l.flags = lamp::no_flags();
+            store_lamp(mem, p, l);
+        }
         0x04 => store_lamp(mem, p, with_state(load_lamp(mem, p), State::Sleep)),
         0x05 => store_lamp(mem, p, with_state(load_lamp(mem, p), State::Active)),
         0x06 => store_lamp(mem, p, with_state(load_lamp(mem, p), State::DeepSleep)),
-        0x0D => store_lamp(mem, p, with_groups(load_lamp(mem, p), word_at(payload, 0))),
-        0x4B => store_lamp(
-            mem,
-            p,
-            with_thresholds(load_lamp(mem, p), thresholds_at(payload, 0)),
-        ),
-        0x4D => store_lamp(mem, p, with_setup(load_lamp(mem, p), payload[0])),
-        0x4F => store_lamp(mem, p, with_pwm(load_lamp(mem, p), words_at(payload, 0))),
+        0x0D => {
+            let mut l = load_lamp(mem, p);
+            l.groups = word_at(payload, 0);
+            store_lamp(mem, p, l);
+        }
+        0x4B => {
+            let mut l = load_lamp(mem, p);
+            l.thresholds = thresholds_at(payload, 0);
+            store_lamp(mem, p, l);
+        }
+        0x4D => {
+            let mut l = load_lamp(mem, p);
+            l.setup = payload[0];
+            store_lamp(mem, p, l);
+        }
+        0x4F => {
+            let mut l = load_lamp(mem, p);
+            l.pwm = words_at(payload, 0);
+            store_lamp(mem, p, l);
+        }
         _ => {}
     }
 }
@@ -378,19 +353,8 @@ fn go_lamps(mem: &mut [u8], count: usize, s: State)
     }
 }
 
-// Does what SETPWM says to each lamp.
-fn pwm_lamps(mem: &mut [u8], count: usize, d: Defaults, payload: &[u8])
-    requires { ⌜ (slotAt count ≤ length (now mem)) × (length (now payload) ≡ 6) ⌝ }
-    ensures { λ _. ⌜ now (mem .exit) ≡ sweep (λ (p : ℕ) (l : LampType). acted d (commandIn 0x4F (now (payload .entry))) l) 0 count (now (mem .entry)) ⌝ }
-{
-    let mut i: usize = 0;
-    while i < count {
-        act(mem, Place(i), d, 0x4F, payload);
-        i += 1;
-    }
-}
-
-// Does what a command says to everyone. The two that a board sends most, GO and SETPWM, have loops that decide nothing anew at each lamp.
+// Does what a command says to everyone. The two that a board sends most, GO and SETPWM, have loops that decide nothing anew at each
+// lamp: with its number written out, the compiler makes SETPWM one of its own.
 fn act_everyone(mem: &mut [u8], count: usize, d: Defaults, n: u8, payload: &[u8])
     requires { ⌜ (slotAt count ≤ length (now mem)) × (payloadSizeOf n ≡ done (length (now payload))) ⌝ }
     ensures { λ _. ⌜ now (mem .exit) ≡ sweep (λ (p : ℕ) (l : LampType). acted d (commandIn n (now (payload .entry))) l) 0 count (now (mem .entry)) ⌝ }
@@ -399,7 +363,7 @@ fn act_everyone(mem: &mut [u8], count: usize, d: Defaults, n: u8, payload: &[u8]
         0x04 => go_lamps(mem, count, State::Sleep),
         0x05 => go_lamps(mem, count, State::Active),
         0x06 => go_lamps(mem, count, State::DeepSleep),
-        0x4F => pwm_lamps(mem, count, d, payload),
+        0x4F => act_lamps(mem, count, d, 0x4F, payload, Reach::Everyone),
         _ => act_lamps(mem, count, d, n, payload, Reach::Everyone),
     }
 }

@@ -275,16 +275,18 @@ fn status_of(l: Lamp) -> u8
     status_byte(state, l.direction, flags)
 }
 
-// The register that a command reads, as it stands.
+// The register that a command reads, as it stands. The status byte is made before the match: there the compiler sees that it is the one
+// which was loaded.
 fn register_bytes(n: u8, l: Lamp) -> Payload
     ensures { λ r. ⌜ r ≡ padded (told n l) ⌝ }
 {
     let thresholds = l.thresholds;
     let pwm = l.pwm;
+    let status = status_of(l);
     match n {
         0x07 => four_zeros(),
         0x0C => word_bytes(l.groups),
-        0x40 => one_byte(status_of(l)),
+        0x40 => one_byte(status),
         0x42 => report_bytes(l),
         0x48 => one_byte(l.temperature),
         0x4A => three_bytes(thresholds),

@@ -3,8 +3,7 @@
 use mathlib.Core.Path.{_≡_, _∙_, refl, ap, sym}
 use mathlib.Core.List.{List}
 use Prim.Native.Nat.{ℕ}
-use Rattle.command.specs.Commands.{rowOf, payloadSizeOf}
-use Rattle.command.proofs.Table.{sized}
+use Rattle.command.specs.Commands.{payloadSizeOf}
 use Rattle.rules.specs.declared.Defaults.{Defaults}
 use Rattle.rules.specs.declared.Lamp.{Lamp}
 use Rattle.rules.specs.Lamp.{changed, acted}
@@ -20,14 +19,14 @@ swept-at : (mem : List ℕ) (count : ℕ) (d : Defaults) (p : List ℕ) {n k : �
 swept-at mem count d p e = ap (λ (x : ℕ). sweep (λ (q : ℕ) (l : Lamp). acted d (commandIn x p) l) 0 count mem) (sym e)
 
 pub act-everyone-spec : {M : Type 1} → statement M
-unfolding changed acted rowOf
+unfolding changed acted
 act-everyone-spec =
     tie.close
     (tie.spec
     (λ c κs. search needs)
     (λ c κs. search needs)
     (λ c κs. search needs)
-    (λ c κs. (c .before .before .before .before .pre .0, sized payloadSizeOf 6 (c .before .match .keys4) refl (c .before .before .before .before .pre .1)))
+    (λ c κs. (c .before .before .before .before .pre .0, sym (ap payloadSizeOf (c .before .match .keys4)) ∙ c .before .before .before .before .pre .1, refl))
     (λ c κs. search needs)
     (λ c. search needs)
     (λ c.
@@ -44,6 +43,6 @@ act-everyone-spec =
     (λ c. search needs)
     (λ c.
     let a = c .before .before .before .before .before .before .before .args in
-    c .before .before .pwm-lamps .ensures ∙ swept-at (a .mem .now) (a .count) (a .d) (a .payload .now) (c .before .before .before .before .match .keys4))
+    c .before .before .act-lamps .ensures ∙ swept-at (a .mem .now) (a .count) (a .d) (a .payload .now) (c .before .before .before .before .match .keys4))
     (λ c. search needs)
     (λ c. search needs))
