@@ -393,27 +393,27 @@ fn mark_lamps(mem: &mut [u8], count: usize, on: bool)
     }
 }
 
-// Numbers the lamp at a place: the init rule. It gives place p the address first + p.
-fn number_one(mem: &mut [u8], p: Place, n: u8, first: Address)
-    requires { ⌜ (slotAt (p .0) + slotSize ≤ length (now mem)) × (first .0 + p .0 ≤ 0x3EF) ⌝ }
-    ensures { λ _. ⌜ now (mem .exit) ≡ withLamp (now (mem .entry)) (p .0) (numberedAs n (first .0 + p .0) (lampAt (now (mem .entry)) (p .0))) ⌝ }
+// Numbers the lamp at a place: gives it an address.
+fn number_one(mem: &mut [u8], p: Place, n: u8, a: Address)
+    requires { ⌜ slotAt (p .0) + slotSize ≤ length (now mem) ⌝ }
+    ensures { λ _. ⌜ now (mem .exit) ≡ withLamp (now (mem .entry)) (p .0) (numberedAs n (a .0) (lampAt (now (mem .entry)) (p .0))) ⌝ }
 {
-    let i = p.0;
-    let a = Address(first.0 + i as u16);
     let mut l = with_state(load_lamp(mem, p), State::Sleep);
     l.address = a;
     l.direction = n == 0x03;
     store_lamp(mem, p, l);
 }
 
-// Numbers all lamps.
+// Numbers all lamps: the init rule. It gives place p the address first + p.
 fn number_lamps(mem: &mut [u8], count: usize, n: u8, first: Address)
     requires { ⌜ (slotAt count ≤ length (now mem)) × (first .0 + count ≤ 0x3F0) ⌝ }
     ensures { λ _. ⌜ now (mem .exit) ≡ sweep (λ (p : ℕ) (l : LampType). numberedAs n (first .0 + p) l) 0 count (now (mem .entry)) ⌝ }
 {
+    let mut a = first.0;
     let mut i: usize = 0;
     while i < count {
-        number_one(mem, Place(i), n, first);
+        number_one(mem, Place(i), n, Address(a));
+        a += 1;
         i += 1;
     }
 }

@@ -1,7 +1,6 @@
 -- `chain::number_one` meets its contract.
 -- Assumes nothing.
 use mathlib.Core.Path.{_∙_, ap}
-use Prim.Native.Nat.{_+_}
 use lib.Dec.{eqb}
 use Rattle.rules.specs.declared.Lamp.{Lamp}
 use Rattle.rules.specs.declared.State.the-variants.{Sleep}
@@ -15,13 +14,11 @@ pub number-one-spec : {M : Type 1} → statement M
 number-one-spec =
     tie.close
     (tie.spec
-    (λ c. search needs)
-    (λ c. search needs)
     (λ c κs. search needs)
     (λ c κs. search needs)
     (λ c κs. search needs)
     (λ c. search needs)
     (λ c.
-    let a = c .before .before .before .before .before .before .before .before .before .args in
+    let a = c .before .before .before .before .before .before .before .before .args in
     c .before .before .store-lamp .ensures
-    ∙ ap (λ (x : Lamp). withLamp (a .mem .now) (a .p .0) (lamp (record { 0 = a .first .0 + a .p .0 }) (x .state) (eqb (a .n) 0x03) (x .flags) (x .temperature) (x .thresholds) (x .setup) (x .groups) (x .pwm))) (c .before .before .before .before .with-state .ensures ∙ ap (withState Sleep) (c .before .before .before .before .before .load-lamp .ensures))))
+    ∙ ap (λ (x : Lamp). withLamp (a .mem .now) (a .p .0) (lamp (a .a) (x .state) (eqb (a .n) 0x03) (x .flags) (x .temperature) (x .thresholds) (x .setup) (x .groups) (x .pwm))) (c .before .before .before .before .with-state .ensures ∙ ap (withState Sleep) (c .before .before .before .before .before .load-lamp .ensures))))
