@@ -2,7 +2,6 @@
 // The cases are the captures of documents 001 and 002 and the edges of document 01; crates/cases/stdin has the form of a line.
 use libc::STDIN_FILENO;
 use libc::STDOUT_FILENO;
-ghost use Rattle.io.specs.Counts.{Counts};
 
 // What a room holds before each call.
 const FILL: u8 = 0x5A;
@@ -44,7 +43,7 @@ fn run_lines(text: &[u8], memory: &mut [u8]) {
 fn run_line(line: &[u8], memory: &mut [u8], lent: usize) -> usize {
     print(line);
     print(b"\n");
-    let operation = byte_at(line, 0);
+    let operation = text::byte_at(line, 0);
     if operation == 0 {
         return lent;
     }
@@ -53,7 +52,7 @@ fn run_line(line: &[u8], memory: &mut [u8], lent: usize) -> usize {
     }
     let case = bytes_of(line);
     let s = case.bytes;
-    let k = within(case.used, &s);
+    let k = text::within(case.used, &s);
     if of_a_chain(operation) {
         return run_chain(operation, &s[..k], memory, lent);
     }
@@ -76,7 +75,7 @@ fn of_a_chain(operation: u8) -> bool {
 
 // Runs a case on a chain. Gives how much of the chain memory is lent from then on.
 fn run_chain(operation: u8, s: &[u8], memory: &mut [u8], lent: usize) -> usize {
-    let n = within(lent, memory);
+    let n = text::within(lent, memory);
     match operation {
         b'k' => {
             print_length(osp::osp_record_len(long_at(s, 0)));
@@ -99,7 +98,7 @@ fn run_chain(operation: u8, s: &[u8], memory: &mut [u8], lent: usize) -> usize {
             lent
         }
         _ => {
-            read_lamp(s, first(memory, n));
+            read_lamp(s, text::first(memory, n));
             lent
         }
     }
@@ -108,14 +107,14 @@ fn run_chain(operation: u8, s: &[u8], memory: &mut [u8], lent: usize) -> usize {
 // m LENGTH COUNT SETUP T0 T1 T2
 fn make_chain(s: &[u8], memory: &mut [u8]) -> usize {
     fill(memory);
-    let n = within(long_at(s, 0) as usize, memory);
+    let n = text::within(long_at(s, 0) as usize, memory);
     let result = osp::osp_make(
         &mut memory[..n],
         long_at(s, 4),
-        byte_at(s, 8),
-        byte_at(s, 9),
-        byte_at(s, 10),
-        byte_at(s, 11),
+        text::byte_at(s, 8),
+        text::byte_at(s, 9),
+        text::byte_at(s, 10),
+        text::byte_at(s, 11),
     );
     print_result(result, b"");
     print_record(memory, n);
@@ -133,8 +132,8 @@ fn fill(memory: &mut [u8]) {
 
 // w AT BYTES
 fn overwrite(s: &[u8], memory: &mut [u8]) {
-    let at = within(long_at(s, 0) as usize, memory);
-    put_all(from(s, 4), &mut memory[at..]);
+    let at = text::within(long_at(s, 0) as usize, memory);
+    put_all(text::from(s, 4), &mut memory[at..]);
 }
 
 // Copies the bytes that fit.
@@ -155,21 +154,21 @@ fn put_one(dst: &mut [u8], i: usize, b: u8) {
 // t ROOM BYTES
 fn deliver(s: &[u8], memory: &mut [u8]) {
     let mut out = [FILL; 48];
-    let room = within(byte_at(s, 0) as usize, &out);
-    let result = osp::osp_deliver(memory, from(s, 1), &mut out[..room]);
+    let room = text::within(text::byte_at(s, 0) as usize, &out);
+    let result = osp::osp_deliver(memory, text::from(s, 1), &mut out[..room]);
     print_room(result, &out);
 }
 
 // n PLACE TEMPERATURE FAULTS
 fn report(s: &[u8], memory: &mut [u8]) {
-    let result = osp::osp_sense(memory, long_at(s, 0), byte_at(s, 4), long_at(s, 5));
+    let result = osp::osp_sense(memory, long_at(s, 0), text::byte_at(s, 4), long_at(s, 5));
     print_result(result, b"");
 }
 
 // l ROOM PLACE
 fn read_lamp(s: &[u8], memory: &[u8]) {
     let mut out = [FILL; 48];
-    let room = within(byte_at(s, 0) as usize, &out);
+    let room = text::within(text::byte_at(s, 0) as usize, &out);
     let result = osp::osp_lamp(memory, long_at(s, 1), &mut out[..room]);
     print_room(result, &out);
 }
@@ -177,7 +176,7 @@ fn read_lamp(s: &[u8], memory: &[u8]) {
 // The checksum of the lent chain memory.
 fn print_record(memory: &[u8], lent: usize) {
     print(b"  record ");
-    print_hex(osp::osp_checksum(first(memory, lent)));
+    print_hex(osp::osp_checksum(text::first(memory, lent)));
     print(b"\n");
 }
 
@@ -249,8 +248,8 @@ fn run_case(operation: u8, s: &[u8]) {
         return;
     }
     let mut out = [FILL; 48];
-    let room = within(byte_at(s, 0) as usize, &out);
-    let result = call(operation, from(s, 1), &mut out[..room]);
+    let room = text::within(text::byte_at(s, 0) as usize, &out);
+    let result = call(operation, text::from(s, 1), &mut out[..room]);
     print_room(result, &out);
 }
 
@@ -260,12 +259,12 @@ fn call(operation: u8, s: &[u8], out: &mut [u8]) -> u32 {
         b'r' => osp::osp_read(s, out),
         b'd' => osp::osp_dissect(s, out),
         b'a' => osp::osp_dissect_answer(s, out),
-        b'b' => osp::osp_build(long_at(s, 0), long_at(s, 4), from(s, 8), out),
+        b'b' => osp::osp_build(long_at(s, 0), long_at(s, 4), text::from(s, 8), out),
         b'c' => osp::osp_build_command(
             long_at(s, 0),
             long_at(s, 4),
             long_at(s, 8),
-            from(s, 12),
+            text::from(s, 12),
             out,
         ),
         b'p' => osp::osp_build_pwm(
@@ -288,7 +287,7 @@ fn print_room(result: u32, out: &[u8; 48]) {
 // The number given back and, where it is 0, the count and the bytes written; and whether another byte of the room changed.
 fn print_result(result: u32, out: &[u8]) {
     let number = result % 256;
-    let written = within((result / 256) as usize, out);
+    let written = text::within((result / 256) as usize, out);
     print(b"  ");
     print_decimal(number);
     if number == 0 {
@@ -297,7 +296,7 @@ fn print_result(result: u32, out: &[u8]) {
         print_bytes(&out[..written]);
     }
     print(b"\n");
-    if !unchanged(from(out, written)) {
+    if !unchanged(text::from(out, written)) {
         print(b"  room changed\n");
     }
 }
@@ -314,39 +313,19 @@ fn unchanged(out: &[u8]) -> bool {
     true
 }
 
-// The bytes behind an index; none where there are not so many.
-fn from(s: &[u8], at: usize) -> &[u8] {
-    let k = within(at, s);
-    &s[k..]
-}
-
-// The first n bytes; all where there are not so many.
-fn first(s: &[u8], n: usize) -> &[u8] {
-    let k = within(n, s);
-    &s[..k]
-}
-
-// The byte at an index, 0 where there is none.
-fn byte_at(s: &[u8], i: usize) -> u8 {
-    if i < s.len() { s[i] } else { 0 }
-}
-
 // The number of four bytes, high byte first, at an index.
 fn long_at(s: &[u8], i: usize) -> u32 {
-    let t = from(s, i);
-    long(byte_at(t, 0), byte_at(t, 1), byte_at(t, 2), byte_at(t, 3))
+    let t = text::from(s, i);
+    long(
+        text::byte_at(t, 0),
+        text::byte_at(t, 1),
+        text::byte_at(t, 2),
+        text::byte_at(t, 3),
+    )
 }
 
 fn long(a: u8, b: u8, c: u8, d: u8) -> u32 {
     a as u32 * 16777216 + b as u32 * 65536 + c as u32 * 256 + d as u32
-}
-
-// The number nearest to n that counts bytes at the start of s.
-fn within(n: usize, s: &[u8]) -> usize
-    ensures { λ r. ⌜ Counts r (now (s .entry)) ⌝ }
-{
-    let most = s.len();
-    if n < most { n } else { most }
 }
 
 fn print(s: &[u8]) {
@@ -360,16 +339,11 @@ fn print_decimal(n: u32) {
 }
 
 fn print_hex(b: u8) {
-    print(&[glyph(b / 16), glyph(b % 16)]);
-}
-
-fn glyph(n: u8) -> u8 {
-    let d = n % 16;
-    if d < 10 { b'0' + d } else { b'A' - 10 + d }
+    print(&[text::digit(b / 16), text::digit(b % 16)]);
 }
 
 fn print_byte(b: u8) {
-    print(&[b' ', glyph(b / 16), glyph(b % 16)]);
+    print(&[b' ', text::digit(b / 16), text::digit(b % 16)]);
 }
 
 fn print_bytes(s: &[u8]) {

@@ -416,7 +416,7 @@ fn long_parts(number: u8, x: u32) -> Parts
 }
 
 // A PWM word put together. Only the low 15 bits of the duty fit.
-pub fn pwm_word(x: Pwm) -> u16
+fn pwm_word(x: Pwm) -> u16
     ensures { λ r. ⌜ r ≡ modeOf x * 32768 + x .duty % 32768 ⌝ }
 {
     if x.day {

@@ -1,6 +1,4 @@
 // What one lamp does with a command: document 01, "A lamp and the chain".
-use command::Command;
-use command::Pwm;
 use rules::Defaults;
 use rules::Flags;
 use rules::Lamp;
@@ -12,24 +10,9 @@ ghost use mathlib.Core.Path.{_≡_};
 ghost use mathlib.Core.Bool.{_||_, not};
 ghost use mathlib.Core.List.{[], _∷_, _++_};
 ghost use Prim.Native.Nat.{_≤_, _/_, _%_};
-ghost use Rattle.command.specs.Commands.{messageOf};
-ghost use Rattle.command.specs.Fields.{wordBytes, pwmFields};
-ghost use Rattle.rules.specs.declared.Defaults.{Defaults as DefaultsType};
-ghost use Rattle.rules.specs.declared.Lamp.{Lamp as LampType};
-ghost use Rattle.rules.specs.Lamp.{bit, stateNumber, statusByte, statusOf, blank, noFlags, marked, faulted, uninitialized, changed, told, answered, report, pwmWords};
-ghost use Rattle.lamp.specs.Reactions.{altered, padded};
-
-// What a command does to a lamp that obeys it.
-pub enum Change {
-    Nothing,
-    Reset,
-    ClearFlags,
-    Go(State),
-    Groups(u16),
-    Overtemperature(Thresholds),
-    Setup(u8),
-    Pwm(Words),
-}
+ghost use Rattle.command.specs.Fields.{wordBytes};
+ghost use Rattle.rules.specs.Lamp.{bit, stateNumber, statusByte, statusOf, blank, noFlags, marked, faulted, uninitialized, told, answered, report};
+ghost use Rattle.lamp.specs.Reactions.{padded};
 
 // The bytes of an answer, in the first `size` bytes.
 pub struct Payload {
@@ -148,47 +131,6 @@ fn is_uninitialized(s: State) -> bool
         State::Sleep => false,
         State::Active => false,
         State::DeepSleep => false,
-    }
-}
-
-fn three_words(r: Pwm, g: Pwm, b: Pwm) -> Words
-    ensures { λ x. ⌜ x ≡ pwmWords (pwmFields r g b) ⌝ }
-{
-    Words {
-        red: command::pwm_word(r),
-        green: command::pwm_word(g),
-        blue: command::pwm_word(b),
-    }
-}
-
-// What a command that is no init does to a lamp that obeys it.
-pub fn change_of(c: Command) -> Change
-    ensures { λ r. ⌜ ((d : DefaultsType) (l : LampType) → altered d r l ≡ changed d (messageOf c) l) ⌝ }
-{
-    match c {
-        Command::Reset => Change::Reset,
-        Command::ClearError => Change::ClearFlags,
-        Command::InitBidir => Change::Nothing,
-        Command::InitLoop => Change::Nothing,
-        Command::GoSleep => Change::Go(State::Sleep),
-        Command::GoActive => Change::Go(State::Active),
-        Command::GoDeepSleep => Change::Go(State::DeepSleep),
-        Command::Identify => Change::Nothing,
-        Command::ReadMult => Change::Nothing,
-        Command::SetMult(mask) => Change::Groups(mask),
-        Command::ReadStatus => Change::ClearFlags,
-        Command::ReadTempStatus => Change::ClearFlags,
-        Command::ReadTemp => Change::Nothing,
-        Command::ReadThresholds => Change::Nothing,
-        Command::SetThresholds(cycle, low, high) => Change::Overtemperature(Thresholds {
-            cycle,
-            low,
-            high,
-        }),
-        Command::ReadSetup => Change::Nothing,
-        Command::SetSetup(x) => Change::Setup(x),
-        Command::ReadPwm => Change::Nothing,
-        Command::SetPwm(r, g, b) => Change::Pwm(three_words(r, g, b)),
     }
 }
 
