@@ -23,8 +23,9 @@ const LINES: usize = 100_000;
 const RUNS: usize = 11;
 /// The lamp counts of the replays.
 const LAMPS: [u32; 2] = [9, 300];
-/// The status of a replay in which a line was refused.
-const REFUSED: i32 = 1;
+/// The status of a replay in which a line was refused, and that of the tool's
+/// program, which the script `osp` gives its status.
+const STATUSES: [i32; 2] = [1, 0];
 
 /// A measure of the library or the tool, and of the second implementation.
 struct Pair(f64, f64);
@@ -149,7 +150,7 @@ impl Replay {
         let status = command.status().map_err(told)?;
         let time = start.elapsed().as_nanos() as f64;
         match status.code() {
-            Some(REFUSED) => Ok(time / LINES as f64),
+            Some(code) if STATUSES.contains(&code) => Ok(time / LINES as f64),
             _ => Err(format!("{}: {status}", program.path.display())),
         }
     }
