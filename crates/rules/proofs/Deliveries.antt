@@ -23,6 +23,13 @@ use Rattle.rules.specs.Chain.{Walked, walk, reaching, isInit, visiting, 
 use Rattle.rules.specs.Lists.{OneLamp, Listed}
 use Rattle.rules.proofs.Walks.{Numbered, still-numbered}
 
+-- A permitted init from a does not run past 3EF.
+pub permitted-fits : (xs : List Lamp) (t : Sent) (a : Address) → permitting xs t ≡ done t → isInit (t .message .number) ≡ true
+    → t .cast ≡ One a → a .0 + length xs ≤ 1008
+unfolding permitting
+permitted-fits xs t a h init first =
+    omega (arith, ltb-false 0x3EF (a .0 + length xs - 1) (passed _ 12 (done t) (simp (init, first) at h) .0))
+
 -- What is permitted is what the dissector accepted.
 pub permitted : (xs : List Lamp) (o : Outcome Sent) (t : Sent) → after o (permitting xs) ≡ done t
     → (o ≡ done t) × (permitting xs t ≡ done t)
@@ -37,13 +44,6 @@ permitted xs o t e =
     same u true Everyone k = done-one (passed (anyUnaddressed xs) 7 (done u) k .1)
     same u true (One a) k = done-one (passed (ltb 0x3EF (a .0 + length xs - 1)) 12 (done u) k .1)
     same u true (Group g) k = absurd (never k)
-
--- A permitted init from a does not run past 3EF.
-pub permitted-fits : (xs : List Lamp) (t : Sent) (a : Address) → permitting xs t ≡ done t → isInit (t .message .number) ≡ true
-    → t .cast ≡ One a → a .0 + length xs ≤ 1008
-unfolding permitting
-permitted-fits xs t a h init first =
-    omega (arith, ltb-false 0x3EF (a .0 + length xs - 1) (passed _ 12 (done t) (simp (init, first) at h) .0))
 
 module _ (d : Defaults) (xs : List Lamp) (room : ℕ) (t : Sent) where
   -- A command that is no init walks along the lamps, with a room of 12 bytes.

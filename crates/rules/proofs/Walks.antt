@@ -29,7 +29,7 @@ lampOf (ends y o) = y
 stepped-length : (s : Step) (xs : List Lamp) (w : Walked) → length (w .lamps) ≡ length xs
     → length (stepped s xs w .lamps) ≡ suc (length xs)
 stepped-length (onward y) xs w e = ap suc e
-stepped-length (ends y o) xs w e = refl
+stepped-length (ends y o) xs w e = cc
 
 -- A walk keeps the count of lamps.
 pub walk-length : (visit : ℕ → Lamp → Step) (p : ℕ) (xs : List Lamp) → length (walk visit p xs .lamps) ≡ length xs
@@ -45,7 +45,7 @@ Each P p (x ∷ xs) = P p x × Each P (suc p) xs
 stepped-each : (P : ℕ → Lamp → Type 0) (s : Step) (p : ℕ) (xs : List Lamp) (w : Walked) → P p (lampOf s) → Each P (suc p) xs
     → Each P (suc p) (w .lamps) → Each P p (stepped s xs w .lamps)
 stepped-each P (onward y) p xs w h hs ih = (h, ih)
-stepped-each P (ends y o) p xs w h hs ih = (h, hs)
+stepped-each P (ends y o) p xs w h hs ih = search
 
 -- What a visit keeps at each of n places, a walk keeps of each lamp.
 pub walk-each : (P : ℕ → Lamp → Type 0) (visit : ℕ → Lamp → Step) (n : ℕ)
