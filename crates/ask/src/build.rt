@@ -1,8 +1,8 @@
 // osp build: a telegram from an address, a command's name and its values.
-use command::Cast;
 use command::Command;
 use command::Composed;
 use command::Pwm;
+use table::Cast;
 use telegram::Address;
 use telegram::Built;
 use text::reading::Number;

@@ -1,7 +1,7 @@
 // osp info: what each command is. Casts and sizes are the library's own table.
-use command::Casts;
-use command::Entry;
-use command::Row;
+use table::Casts;
+use table::Entry;
+use table::Row;
 use text::put;
 use words::Named;
 use words::put_form;
@@ -107,7 +107,7 @@ fn put_row(out: &mut [u8], at: usize, number: u8, row: Row) -> usize {
 
 // The row of a number, if the table has it.
 fn put_known(out: &mut [u8], at: usize, number: u8) -> usize {
-    let entry = command::row_of(number);
+    let entry = table::row_of(number);
     let Entry::Known(row) = entry else {
         return at;
     };
@@ -148,7 +148,7 @@ fn put_block(out: &mut [u8], number: u8, row: Row) -> usize {
 
 fn print_one(number: u8, err: i32) -> u8 {
     let mut page = io::buffer();
-    let entry = command::row_of(number);
+    let entry = table::row_of(number);
     let Entry::Known(row) = entry else {
         return 2;
     };

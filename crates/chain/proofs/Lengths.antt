@@ -8,9 +8,9 @@ use lib.Dec.{eqb}
 use lib.ListN.{length}
 use Rattle.telegram.specs.Numbers.{Outcome, refused, done, refuse, after}
 use Rattle.telegram.proofs.Building.{listed-le, telegram-length}
+use Rattle.table.specs.declared.Cast.{Cast}
+use Rattle.table.specs.declared.Cast.the-variants.{Everyone, One, Group}
 use Rattle.command.specs.Commands.{Sent, Message, dissecting}
-use Rattle.command.specs.declared.Cast.{Cast}
-use Rattle.command.specs.declared.Cast.the-variants.{Everyone, One, Group}
 use Rattle.rules.specs.declared.Defaults.{Defaults}
 use Rattle.rules.specs.declared.Lamp.{Lamp}
 use Rattle.rules.specs.Lamp.{report, acted, answered, numberedAs, withCE}

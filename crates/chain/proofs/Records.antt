@@ -13,7 +13,7 @@ use lib.Seq.{length-take-le, take-at, drop-at, drop-drop, drop-append-add, take-
 use borrow.Author.Tests.{eq-eqb, ne-eqb, lt-ltb, le-ltb, le-leb, lt-leb, ltb-false, leb-true, not-false}
 use Rattle.telegram.specs.Telegram.{Bytes}
 use Rattle.telegram.proofs.Outcomes.{done-one, passed}
-use Rattle.command.proofs.Both.{and-left, and-right}
+use Rattle.table.proofs.Both.{and-left, and-right}
 use Rattle.rules.specs.declared.Defaults.{Defaults}
 use Rattle.rules.specs.declared.Lamp.{Lamp}
 use Rattle.rules.specs.Lamp.{noAddress, blank}

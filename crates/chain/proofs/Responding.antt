@@ -14,12 +14,12 @@ use Rattle.telegram.specs.Telegram.{Bytes, reading}
 use Rattle.telegram.specs.declared.Telegram.{Telegram}
 use Rattle.telegram.proofs.Reading.{framed, accepted}
 use Rattle.telegram.specs.declared.Address.{Address}
-use Rattle.command.specs.Casts.{castInRange}
+use Rattle.table.specs.Casts.{castInRange}
+use Rattle.table.specs.declared.Cast.{Cast}
+use Rattle.table.specs.declared.Cast.the-variants.{Everyone, One, Group}
 use Rattle.command.specs.Commands.{Message, Sent, dissecting}
-use Rattle.command.specs.declared.Cast.{Cast}
-use Rattle.command.specs.declared.Cast.the-variants.{Everyone, One, Group}
+use Rattle.table.proofs.Destinations.{reached as in-range}
 use Rattle.command.proofs.Naming.{named, dissected}
-use Rattle.command.proofs.Destinations.{reached as in-range}
 use Rattle.rules.specs.declared.Place.{Place}
 use Rattle.rules.specs.declared.Defaults.{Defaults}
 use Rattle.rules.specs.declared.Lamp.{Lamp}

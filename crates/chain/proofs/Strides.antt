@@ -12,8 +12,8 @@ use lib.ListN.{length, getD, set}
 use borrow.Author.Tests.{eq-eqb, ne-eqb}
 use Rattle.telegram.specs.Numbers.{Outcome, done}
 use Rattle.telegram.specs.declared.Address.{Address}
+use Rattle.table.specs.declared.Cast.the-variants.{Everyone, One, Group}
 use Rattle.command.specs.Commands.{Message}
-use Rattle.command.specs.declared.Cast.the-variants.{Everyone, One, Group}
 use Rattle.rules.specs.declared.Place.{Place}
 use Rattle.rules.specs.declared.Defaults.{Defaults}
 use Rattle.rules.specs.declared.Lamp.{Lamp}

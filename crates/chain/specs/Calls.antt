@@ -7,8 +7,8 @@ use mathlib.Core.Bool.{true}
 use mathlib.Core.List.{List, [], _∷_, _++_, map}
 use lib.ListN.{length, take}
 use Rattle.telegram.specs.Numbers.{Outcome, refused, done, counted, leaves}
+use Rattle.table.specs.declared.Cast.the-variants.{One}
 use Rattle.command.specs.Commands.{Sent, dissecting}
-use Rattle.command.specs.declared.Cast.the-variants.{One}
 use Rattle.rules.specs.declared.Defaults.{Defaults}
 use Rattle.rules.specs.declared.Lamp.{Lamp}
 use Rattle.rules.specs.Chain.{isInit}

@@ -3,10 +3,10 @@
 use Prim.Native.Nat.{ℕ}
 use mathlib.Core.List.{List, []}
 use Rattle.telegram.specs.Numbers.{refused, done}
+use Rattle.table.specs.declared.Cast.{Cast}
+use Rattle.table.specs.declared.Cast.the-variants.{Everyone, Group}
 use Rattle.command.specs.Fields.{layoutOf, fieldsBy}
 use Rattle.command.specs.Commands.{Message, Sent, numbered}
-use Rattle.command.specs.declared.Cast.{Cast}
-use Rattle.command.specs.declared.Cast.the-variants.{Everyone, Group}
 use Rattle.rules.specs.Chain.{Walked, walk, reaching, responding}
 use Rattle.chain.specs.Record.{decode}
 use Rattle.chain.specs.declared.Reach.{Reach}

@@ -1,6 +1,5 @@
 // A chain of lamps in lent bytes (docs/RECORD.md): made, given telegrams and sensor reports, read out. Document 01, "A lamp and the
 // chain".
-use command::Cast;
 use command::Heading;
 use lamp::Payload;
 use rules::Defaults;
@@ -10,6 +9,7 @@ use rules::Place;
 use rules::State;
 use rules::Thresholds;
 use rules::Words;
+use table::Cast;
 use telegram::Address;
 use telegram::Built;
 use telegram::Read;
@@ -22,10 +22,10 @@ ghost use lib.Dec.{eqb};
 ghost use lib.ListN.{length, take, drop};
 ghost use Rattle.telegram.specs.Numbers.{refused, done, numberOf, builtAs, counted, front, leaves};
 ghost use Rattle.telegram.specs.Telegram.{listed};
-ghost use Rattle.command.specs.Commands.{payloadSizeOf};
-ghost use Rattle.command.specs.Casts.{castInRange};
+ghost use Rattle.table.specs.Table.{payloadSizeOf};
+ghost use Rattle.table.specs.Casts.{castInRange};
+ghost use Rattle.table.specs.declared.Cast.the-variants.{Everyone, One};
 ghost use Rattle.command.specs.Fields.{wordAt};
-ghost use Rattle.command.specs.declared.Cast.the-variants.{Everyone, One};
 ghost use Rattle.rules.specs.declared.Lamp.{Lamp as LampType};
 ghost use Rattle.rules.specs.Lamp.{numberedAs, sensed, changed, acted, obeys, withCE, withState, report};
 ghost use Rattle.rules.specs.Chain.{addressRight, addressesRight, anyUnaddressed, answerFrom, isInit};

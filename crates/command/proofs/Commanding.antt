@@ -4,27 +4,19 @@
 use mathlib.Core.Path.{_≡_, _∙_, sym}
 use mathlib.Core.Bool.{true, false}
 use mathlib.Core.List.{List}
-use Prim.Native.Nat.{ℕ, _≤_}
-use native.Mathlib.Omega.{arith}
-use lib.Dec.{leb, ltb}
+use Prim.Native.Nat.{ℕ}
+use lib.Dec.{ltb}
 use lib.ListN.{length}
-use borrow.Author.Tests.{leb-true, not-false}
+use borrow.Author.Tests.{not-false}
 use Rattle.telegram.specs.Numbers.{refused, done, fitted}
 use Rattle.telegram.specs.Telegram.{building, telegramOf}
 use Rattle.telegram.proofs.Outcomes.{done-one, passed}
 use Rattle.telegram.proofs.Building.{Sendable, build-sendable}
-use Rattle.command.specs.Casts.{addressOf, castInRange}
+use Rattle.table.specs.Casts.{addressOf, castInRange}
+use Rattle.table.specs.Table.{rowOf, listsCast}
+use Rattle.table.specs.declared.Cast.{Cast}
 use Rattle.command.specs.Fields.{layoutOf, dutiesInRange}
-use Rattle.command.specs.Commands.{Message, rowOf, listsCast, payloadOf, buildingCommand}
-use Rattle.command.specs.declared.Cast.{Cast}
-use Rattle.command.specs.declared.Cast.the-variants.{Everyone, One, Group}
-use Rattle.command.proofs.Both.{and-right}
-
--- The address of a cast in range has 10 bits.
-pub address-le : (cast : Cast) → castInRange cast ≡ true → addressOf cast ≤ 1023
-address-le Everyone h = omega arith
-address-le (One a) h = omega (arith, leb-true (a .0) 0x3EF (and-right (leb 1 (a .0)) (leb (a .0) 0x3EF) h))
-address-le (Group g) h = omega (arith, leb-true g 14 h)
+use Rattle.command.specs.Commands.{Message, payloadOf, buildingCommand}
 
 -- What the tests of the command builder ask of a message and its cast.
 pub record Fit (m : Message) (cast : Cast) : Type 0 where

@@ -3,8 +3,8 @@
 use mathlib.Core.Path.{_≡_, _∙_, sym, ap, ap₂}
 use Rattle.telegram.specs.Numbers.{done}
 use Rattle.telegram.proofs.Outcomes.{never, done-one}
+use Rattle.table.specs.declared.Cast.{Cast}
 use Rattle.command.specs.Commands.{messageOf, Sent, dissectionAs}
-use Rattle.command.specs.declared.Cast.{Cast}
 use Rattle.command.specs.declared.Dissection.{Dissection}
 use Rattle.command.specs.declared.Dissection.the-variants.{Accepted, Refused}
 use Rattle.command.specs.declared.Command.{Command}

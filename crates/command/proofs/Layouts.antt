@@ -11,8 +11,9 @@ use borrow.Author.Tests.{le-leb}
 use Rattle.checksum.proofs.Below.{below, at}
 use Rattle.telegram.specs.Numbers.{Outcome, refused, done}
 use Rattle.telegram.specs.Telegram.{Bytes}
-use Rattle.command.specs.Fields.{Layout, octets, word, long, pwm, wordAt, wordBytes, pwmBytes, fieldsBy, payloadBy, dutiesInRange, modeOf, pwmFields, layoutOf, answerLayoutOf}
-use Rattle.command.specs.Commands.{numbered, rowOf, payloadSizeOf, answerSizeOf}
+use Rattle.table.specs.Table.{rowOf, payloadSizeOf}
+use Rattle.command.specs.Fields.{Layout, octets, word, long, pwm, wordAt, wordBytes, pwmBytes, fieldsBy, payloadBy, dutiesInRange, modeOf, pwmFields, layoutOf}
+use Rattle.command.specs.Commands.{numbered}
 use Rattle.command.specs.declared.Pwm.{Pwm}
 
 -- k elements of a list from an index on
@@ -40,11 +41,11 @@ Wide long p = length p ≡ 4
 Wide pwm p = length p ≡ 6
 
 -- The size that the table has for a number is the width that its layout wants.
-is-size : ℕ → Outcome ℕ → Bool
+unfoldable pub is-size : ℕ → Outcome ℕ → Bool
 is-size k (refused n) = true
 is-size k (done x) = eqb x k
 
-agrees : Layout → Outcome ℕ → Bool
+unfoldable pub agrees : Layout → Outcome ℕ → Bool
 agrees octets o = true
 agrees word o = is-size 2 o
 agrees long o = is-size 4 o
@@ -58,7 +59,7 @@ wide-by long p t = eqb→eq (length p) 4 t
 wide-by pwm p t = eqb→eq (length p) 6 t
 
 -- So a payload of the table's size is as wide as its layout wants: one test at each number of seven bits.
-wide : (layout : ℕ → Layout) (size : ℕ → Outcome ℕ) → T (below (λ (m : ℕ). agrees (layout m) (size m)) 128)
+pub wide : (layout : ℕ → Layout) (size : ℕ → Outcome ℕ) → T (below (λ (m : ℕ). agrees (layout m) (size m)) 128)
     → (n : ℕ) → n ≤ 127 → (p : List ℕ) → size n ≡ done (length p) → Wide (layout n) p
 wide layout size t n h p e =
     wide-by (layout n) p
@@ -67,10 +68,6 @@ wide layout size t n h p e =
 pub command-wide : (n : ℕ) → n ≤ 127 → (p : List ℕ) → payloadSizeOf n ≡ done (length p) → Wide (layoutOf n) p
 unfolding agrees is-size layoutOf rowOf
 command-wide = wide layoutOf payloadSizeOf tt
-
-pub answer-wide : (n : ℕ) → n ≤ 127 → (p : List ℕ) → answerSizeOf n ≡ done (length p) → Wide (answerLayoutOf n) p
-unfolding agrees is-size answerLayoutOf rowOf
-answer-wide = wide answerLayoutOf answerSizeOf tt
 
 word-lt : (p : List ℕ) → Bytes p → (i : ℕ) → wordAt p i < 65536
 word-lt p y i = omega (arith, y i, y (i + 1))

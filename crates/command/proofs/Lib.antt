@@ -1,13 +1,7 @@
-pub mod Both
-pub mod Keys
-pub mod Table
-pub mod Destinations
 pub mod Layouts
 pub mod LaidOut
 pub mod Naming
-pub mod Answering
 pub mod Commanding
 pub mod Sound
 pub mod RoundTrip
-pub mod AsMarked
 pub mod Exact

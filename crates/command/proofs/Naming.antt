@@ -12,13 +12,14 @@ use Rattle.telegram.specs.Numbers.{refused, done, after}
 use Rattle.telegram.specs.Telegram.{reading, payloadIn}
 use Rattle.telegram.specs.declared.Telegram.{Telegram}
 use Rattle.telegram.proofs.Outcomes.{done-one, passed, went-on}
-use Rattle.command.specs.Casts.{destination}
+use Rattle.table.specs.Casts.{destination}
+use Rattle.table.specs.Table.{rowOf, castListed, payloadFits, payloadSizeOf}
+use Rattle.table.specs.declared.Row.{Row}
+use Rattle.table.specs.declared.Cast.{Cast}
 use Rattle.command.specs.Fields.{layoutOf, fieldsBy}
-use Rattle.command.specs.Commands.{Message, numbered, rowOf, castListed, payloadFits, payloadSizeOf, Sent, composing, headingAs, fitting, naming, dissecting}
-use Rattle.command.specs.declared.Row.{Row}
-use Rattle.command.specs.declared.Cast.{Cast}
+use Rattle.command.specs.Commands.{Message, numbered, Sent, composing, headingAs, fitting, naming, dissecting}
 use Rattle.command.specs.declared.Heading.the-variants.{To}
-use Rattle.command.proofs.Table.{part-payload}
+use Rattle.table.proofs.Table.{part-payload}
 
 module _ (s : List ℕ) (t : Telegram) where
   pub name-unknown : {n : ℕ} → rowOf (t .command) ≡ refused n → refused n ≡ naming s t

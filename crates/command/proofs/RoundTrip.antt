@@ -1,5 +1,5 @@
--- What dissects builds back to the same bytes; what is built dissects back to the same command, cast and fields; an accepted
--- answer builds back through the raw builder; what is accepted for one lamp has an address 001 to 3EF.
+-- What dissects builds back to the same bytes; what is built dissects back to the same command, cast and fields; what is
+-- accepted for one lamp has an address 001 to 3EF.
 -- Assumes nothing.
 use mathlib.Core.Path.{_≡_, _∙_, refl, sym, ap, subst}
 use mathlib.Core.Bool.{Bool, true, false}
@@ -16,22 +16,21 @@ use Rattle.telegram.specs.declared.Telegram.{Telegram}
 use Rattle.telegram.proofs.Reading.{accepted-count}
 use Rattle.telegram.proofs.Building.{Sendable, build-done, built}
 use Rattle.telegram.proofs.RoundTrip.{read-builds, built-reads}
-use Rattle.command.specs.Casts.{addressOf, castInRange}
-use Rattle.command.specs.Fields.{layoutOf, answerLayoutOf, fieldsBy}
-use Rattle.command.specs.Commands.{Message, numbered, messageOf, Sent, rowOf, castListed, listsCast, payloadOf, payloadSizeOf, dissecting, buildingCommand}
-use Rattle.command.specs.Answers.{Reply, answerPayloadOf, dissectingAnswer}
-use Rattle.command.specs.declared.Row.{Row}
-use Rattle.command.specs.declared.Cast.{Cast}
-use Rattle.command.specs.declared.Cast.the-variants.{One}
+use Rattle.table.specs.Casts.{addressOf, castInRange}
+use Rattle.table.specs.Table.{rowOf, castListed, listsCast, payloadSizeOf}
+use Rattle.table.specs.declared.Row.{Row}
+use Rattle.table.specs.declared.Cast.{Cast}
+use Rattle.table.specs.declared.Cast.the-variants.{One}
+use Rattle.command.specs.Fields.{layoutOf, fieldsBy}
+use Rattle.command.specs.Commands.{Message, numbered, messageOf, Sent, payloadOf, dissecting, buildingCommand}
 use Rattle.command.specs.declared.Command.{Command}
 use Rattle.telegram.specs.declared.Address.{Address}
-use Rattle.command.proofs.Both.{and-left, and-right}
-use Rattle.command.proofs.Table.{sized}
-use Rattle.command.proofs.Destinations.{reached, cast-back}
-use Rattle.command.proofs.Layouts.{Wide, command-wide, answer-wide, payload-back, duties-back}
+use Rattle.table.proofs.Both.{and-left, and-right}
+use Rattle.table.proofs.Table.{sized}
+use Rattle.table.proofs.Destinations.{reached, cast-back, address-le}
+use Rattle.command.proofs.Layouts.{Wide, command-wide, payload-back, duties-back}
 use Rattle.command.proofs.Naming.{Named, named, name-done, dissected, dissect-named}
-use Rattle.command.proofs.Answering.{Replied, replied, dissected-answer}
-use Rattle.command.proofs.Commanding.{Fit, address-le, command-sent, commanded}
+use Rattle.command.proofs.Commanding.{Fit, command-sent, commanded}
 use Rattle.command.proofs.Sound.{sound}
 
 -- The payload of bytes is bytes, and as long as the telegram says.
@@ -40,10 +39,10 @@ part-bytes true s k i e h l = rw (getD-take k (drop 3 s) i 0 (ltb-true i k e), g
 part-bytes false s k i e h l =
     rw (List·getD-eq-default (payloadIn s k) 0 {n = i} (let u : k ≤ i = ltb-false i k e in omega arith)) (omega arith)
 
-payload-bytes : (s : List ℕ) (k : ℕ) → Bytes s → length (payloadIn s k) ≡ k → Bytes (payloadIn s k)
+pub payload-bytes : (s : List ℕ) (k : ℕ) → Bytes s → length (payloadIn s k) ≡ k → Bytes (payloadIn s k)
 payload-bytes s k y l i = part-bytes (ltb i k) s k i refl y l
 
-payload-length : (s : List ℕ) (t : Telegram) → reading s ≡ done t → length (payloadIn s (t .size)) ≡ t .size
+pub payload-length : (s : List ℕ) (t : Telegram) → reading s ≡ done t → length (payloadIn s (t .size)) ≡ t .size
 payload-length s t e = length-take-le (t .size) (drop 3 s) (omega (arith, length-drop 3 s, accepted-count s t e))
 
 -- What dissects builds back to the same bytes, in every room that is long enough for them.
@@ -95,24 +94,6 @@ built-dissects c cast room s e =
     ∙ sym
     (name-done s t (w .0) (w .1 .0) cast (cast-back cast (f .range)) (w .1 .1) (eq-eqb _ _ es) m
     (ap (numbered n) (sym (ap (fieldsBy (layoutOf n)) (r .1) ∙ z .back (f .duties)))))
-
--- An accepted answer builds back through the raw builder, in every room that is long enough for it.
-pub answered-builds : (s : List ℕ) (a : Reply) → Bytes s → dissectingAnswer s ≡ done a → (room : ℕ) → length s ≤ room
-    → building (a .address) (a .message .number) (answerPayloadOf (a .message)) room ≡ done s
-answered-builds s a y e room h =
-    let d = dissected-answer s e in
-    let t : Telegram = d .0 in
-    let r : reading s ≡ done t = d .1 .0 in
-    let g : Replied s t a = replied s t a (d .1 .1) in
-    let n = t .command in
-    let p : List ℕ = payloadIn s (t .size) in
-    let lp : length p ≡ t .size = payload-length s t r in
-    let b : building (t .address .0) n p room ≡ done s = read-builds s t y r room h in
-    let v = built (t .address .0) n p room b .0 in
-    let w : Wide (answerLayoutOf n) p = answer-wide n (v .command) p (simp (g .known) (ap done (sym (g .size) ∙ sym lp))) in
-    subst (λ (x : Reply). building (x .address) (x .message .number) (answerPayloadOf (x .message)) room ≡ done s) (g .reply)
-    (ap (λ (l : List ℕ). building (t .address .0) n l room) (payload-back (answerLayoutOf n) p (payload-bytes s (t .size) y lp) w)
-    ∙ b)
 
 -- What is accepted for one lamp has an address 001 to 3EF.
 pub one-lamp : (s : List ℕ) (m : Sent) (a : Address) → dissecting s ≡ done m → m .cast ≡ One a → (1 ≤ a .0) × (a .0 ≤ 0x3EF)

@@ -12,16 +12,14 @@ use lib.ListN.{length, getD}
 use borrow.Author.Tests.{leb-true}
 use Rattle.telegram.specs.Numbers.{done}
 use Rattle.telegram.specs.Telegram.{listed}
-use Rattle.command.specs.Fields.{pwm, layoutOf, answerLayoutOf, fieldsBy, payloadBy, dutiesInRange, modeOf, pwmFields}
-use Rattle.command.specs.Commands.{Message, messageOf, payloadOf, rowOf, payloadSizeOf}
+use Rattle.table.specs.Table.{rowOf, payloadSizeOf}
+use Rattle.command.specs.Fields.{pwm, layoutOf, fieldsBy, payloadBy, dutiesInRange, modeOf, pwmFields}
+use Rattle.command.specs.Commands.{Message, messageOf, payloadOf}
 use Rattle.command.specs.declared.Pwm.{Pwm}
 use Rattle.command.specs.declared.Command.{Command}
 use Rattle.command.specs.declared.Command.the-variants.{Reset, ClearError, InitBidir, InitLoop, GoSleep, GoActive, GoDeepSleep, Identify, ReadMult, SetMult, ReadStatus, ReadTempStatus, ReadTemp, ReadThresholds, SetThresholds, ReadSetup, SetSetup, ReadPwm, SetPwm}
-use Rattle.command.specs.Answers.{answerMessageOf, answerPayloadOf}
-use Rattle.command.specs.declared.Answer.{Answer}
-use Rattle.command.specs.declared.Answer.the-variants.{InitBidir as AnswerBidir, InitLoop as AnswerLoop, Identity, Mask, Status, TempStatus, Temp, Thresholds, Setup, Words}
 use Rattle.telegram.proofs.Building.{listed-le}
-use Rattle.command.proofs.Both.{and-left, and-right}
+use Rattle.table.proofs.Both.{and-left, and-right}
 
 -- A PWM word from two fields.
 pub pwm-in : List ℕ → ℕ → ℕ → Pwm
@@ -111,16 +109,3 @@ sound (SetPwm r g b) = record { number = lit≤ tt; length-listed = refl; size =
 -- No payload is longer than 8 bytes.
 pub command-short : (c : Command) → length (payloadOf (messageOf c)) ≤ 8
 command-short c = listed-le (length (payloadOf (messageOf c))) (sound c .length-listed)
-
-pub answer-short : (a : Answer) → length (answerPayloadOf (answerMessageOf a)) ≤ 8
-unfolding answerLayoutOf
-answer-short (AnswerBidir t x) = lit≤ tt
-answer-short (AnswerLoop t x) = lit≤ tt
-answer-short (Identity x) = lit≤ tt
-answer-short (Mask x) = lit≤ tt
-answer-short (Status x) = lit≤ tt
-answer-short (TempStatus t x) = lit≤ tt
-answer-short (Temp t) = lit≤ tt
-answer-short (Thresholds x y z) = lit≤ tt
-answer-short (Setup x) = lit≤ tt
-answer-short (Words r g b) = lit≤ tt

@@ -1,22 +1,17 @@
--- Document 01, "Commands": the table, what the command dissector gives and what the command builder makes.
+-- Document 01, "Commands": what the command dissector gives and what the command builder makes.
 -- Assumes nothing.
-use Prim.Native.Nat.{ℕ, _+_, _-_}
-use mathlib.Core.Bool.{Bool, true, false, cond, not}
+use Prim.Native.Nat.{ℕ, _-_}
+use mathlib.Core.Bool.{not}
 use mathlib.Core.List.{List, [], _∷_, _++_}
-use lib.Dec.{eqb, leb}
 use lib.ListN.{length, replicate}
 use Rattle.telegram.specs.Numbers.{Outcome, refused, done, refuse, after, fitted, numberOf}
 use Rattle.telegram.specs.Telegram.{reading, payloadIn, telegramOf}
 use Rattle.telegram.specs.declared.Telegram.{Telegram}
-use Rattle.command.specs.Casts.{destination, addressOf, castInRange}
+use Rattle.table.specs.Casts.{destination, addressOf, castInRange}
+use Rattle.table.specs.Table.{rowOf, castListed, payloadFits, listsCast}
+use Rattle.table.specs.declared.Row.{Row}
+use Rattle.table.specs.declared.Cast.{Cast}
 use Rattle.command.specs.Fields.{Layout, layoutOf, fieldsBy, payloadBy, dutiesInRange, pwmFields}
-use Rattle.command.specs.declared.Casts.{Casts}
-use Rattle.command.specs.declared.Casts.the-variants.{All, Single, First}
-use Rattle.command.specs.declared.Row.{Row}
-use Rattle.command.specs.declared.Entry.{Entry}
-use Rattle.command.specs.declared.Entry.the-variants.{Known, Unknown}
-use Rattle.command.specs.declared.Cast.{Cast}
-use Rattle.command.specs.declared.Cast.the-variants.{Everyone, One, Group}
 use Rattle.command.specs.declared.Command.{Command}
 use Rattle.command.specs.declared.Command.the-variants.{Reset, ClearError, InitBidir, InitLoop, GoSleep, GoActive, GoDeepSleep, Identify, ReadMult, SetMult, ReadStatus, ReadTempStatus, ReadTemp, ReadThresholds, SetThresholds, ReadSetup, SetSetup, ReadPwm, SetPwm}
 use Rattle.command.specs.declared.Parts.{Parts}
@@ -27,57 +22,6 @@ use Rattle.command.specs.declared.Heading.{Heading}
 use Rattle.command.specs.declared.Heading.the-variants.{To, Refused as Heading-refused}
 use Rattle.command.specs.declared.Dissection.{Dissection}
 use Rattle.command.specs.declared.Dissection.the-variants.{Accepted, Refused}
-
--- A row of the table: casts, payload bytes, answer bytes.
-abbrev pub row : Casts → ℕ → ℕ → Outcome Row
-row casts payload answer = done (record { casts = casts; payload = payload; answer = answer })
-
--- The table: casts, payload bytes and answer bytes of each number. Every other number is unknown (6).
-unfoldable pub rowOf : ℕ → Outcome Row
-rowOf n =
-    cond (leb n 0x01) (row All 0 0)  -- RESET, CLRERROR
-    (cond (leb n 0x03) (row First 0 2)  -- INITBIDIR, INITLOOP
-    (cond (leb n 0x06) (row All 0 0)  -- GOSLEEP, GOACTIVE, GODEEPSLEEP
-    (cond (eqb n 0x07) (row Single 0 4)  -- IDENTIFY
-    (cond (eqb n 0x0C) (row Single 0 2)  -- READMULT
-    (cond (eqb n 0x0D) (row All 2 0)  -- SETMULT
-    (cond (eqb n 0x40) (row Single 0 1)  -- READSTATUS
-    (cond (eqb n 0x42) (row Single 0 2)  -- READTEMPST
-    (cond (eqb n 0x48) (row Single 0 1)  -- READTEMP
-    (cond (eqb n 0x4A) (row Single 0 3)  -- READOTTH
-    (cond (eqb n 0x4B) (row All 3 0)  -- SETOTTH
-    (cond (eqb n 0x4C) (row Single 0 1)  -- READSETUP
-    (cond (eqb n 0x4D) (row All 1 0)  -- SETSETUP
-    (cond (eqb n 0x4E) (row Single 0 6)  -- READPWM
-    (cond (eqb n 0x4F) (row All 6 0)  -- SETPWM
-    (refused 6)))))))))))))))
-
--- The code's answer for a number: a row of the table, or unknown, which is 6.
-abbrev pub entryAs : Entry → Outcome Row
-entryAs (Known r) = done r
-entryAs Unknown = refused 6
-
--- The column of casts: all three; one lamp; a first address, which is named as one lamp, or everyone.
-abbrev pub castListed : Casts → Cast → Bool
-castListed All cast = true
-castListed Single Everyone = false
-castListed Single (One a) = true
-castListed Single (Group g) = false
-castListed First Everyone = true
-castListed First (One a) = true
-castListed First (Group g) = false
-
--- The payload size is right for the command.
-abbrev pub payloadFits : Row → ℕ → Bool
-payloadFits r size = eqb size (r .payload)
-
--- How many bytes the table has for the payload of a number.
-abbrev pub payloadSizeOf : ℕ → Outcome ℕ
-payloadSizeOf n = after (rowOf n) (λ (r : Row). done (r .payload))
-
--- How many bytes the table has for the answer to a number.
-abbrev pub answerSizeOf : ℕ → Outcome ℕ
-answerSizeOf n = after (rowOf n) (λ (r : Row). done (r .answer))
 
 -- A command or an answer in document 01's numbers: the number of the table and the values of its fields.
 pub record Message : Type 0 where
@@ -158,11 +102,6 @@ composing n p =
 abbrev pub composedAs : Composed → Outcome Message
 composedAs (Command-accepted c) = done (messageOf c)
 composedAs (Command-refused e) = refused (numberOf e)
-
--- The table lists the cast for the command.
-abbrev pub listsCast : Outcome Row → Cast → Bool
-listsCast (done r) cast = castListed (r .casts) cast
-listsCast (refused n) cast = false
 
 -- The command builder, of a command, its cast and the length of the room: 10, 7, 9.
 unfoldable pub buildingCommand : Message → Cast → ℕ → Outcome (List ℕ)

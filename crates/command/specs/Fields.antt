@@ -60,7 +60,3 @@ dutiesInRange pwm f = leb (getD f 1 0) 32767 && (leb (getD f 3 0) 32767 && leb (
 -- SETMULT holds one word, SETPWM three PWM words, any other command each byte by itself.
 unfoldable pub layoutOf : ℕ → Layout
 layoutOf n = cond (eqb n 0x0D) word (cond (eqb n 0x4F) pwm octets)
-
--- An answer to READMULT holds one word, to IDENTIFY one number, to READPWM three PWM words.
-unfoldable pub answerLayoutOf : ℕ → Layout
-answerLayoutOf n = cond (eqb n 0x07) long (cond (eqb n 0x0C) word (cond (eqb n 0x4E) pwm octets))

@@ -1,6 +1,6 @@
 // osp fields: document 002's table of a telegram. docs/TOOL.md has the form.
-use command::AnswerDissection;
-use command::Answered;
+use answer::AnswerDissection;
+use answer::Answered;
 use command::Dissected;
 use command::Dissection;
 use text::put;
@@ -20,7 +20,7 @@ struct Column {
 }
 
 fn judge_answer(s: &[u8], number: u8) -> Verdict {
-    let d = command::dissect_answer(s);
+    let d = answer::dissect_answer(s);
     match d {
         AnswerDissection::Accepted(answered) => Verdict::Given(answered),
         AnswerDissection::Refused(e) => Verdict::Refused(number, telegram::refusal_number(e)),

@@ -5,7 +5,7 @@ use Prim.Native.Nat.{ℕ, _≤_, _<_}
 use native.Mathlib.Omega.{arith}
 use borrow.Author.Tests.{le-leb, lt-leb, ne-eqb}
 use Rattle.telegram.specs.Numbers.{refused, done}
-use Rattle.command.specs.declared.Cast.the-variants.{Everyone, One, Group}
+use Rattle.table.specs.declared.Cast.the-variants.{Everyone, One, Group}
 use Rattle.osp.specs.Interface.{directing}
 
 module _ (k v : ℕ) where

@@ -15,13 +15,13 @@ use Rattle.telegram.proofs.Front.{overwritten, front-over, put-over}
 use Rattle.telegram.proofs.Building.{listed-le, telegram-length, built}
 use Rattle.telegram.proofs.Outcomes.{never, done-one}
 use Rattle.telegram.specs.declared.Telegram.{Telegram}
-use Rattle.command.specs.Casts.{castKind, castValue, addressOf}
-use Rattle.command.specs.Fields.{Layout, wordBytes, layoutOf, answerLayoutOf, payloadBy}
+use Rattle.table.specs.Casts.{castKind, castValue, addressOf}
+use Rattle.table.specs.declared.Cast.{Cast}
+use Rattle.command.specs.Fields.{Layout, wordBytes, layoutOf, payloadBy}
 use Rattle.command.specs.Commands.{Message, messageOf, Sent, payloadOf, buildingCommand}
-use Rattle.command.specs.Answers.{Reply}
-use Rattle.command.specs.declared.Cast.{Cast}
 use Rattle.command.specs.declared.Command.{Command}
 use Rattle.command.specs.declared.Parts.{Parts}
+use Rattle.answer.specs.Answers.{answerLayoutOf, Reply}
 use Rattle.command.proofs.LaidOut.{LaidOut}
 use Rattle.command.proofs.Commanding.{commanded}
 use Rattle.command.proofs.Sound.{command-short}

@@ -8,12 +8,12 @@ use lib.ListN.{length}
 use Rattle.telegram.specs.Numbers.{Outcome, refused, done, refuse, after, fitted, counted}
 use Rattle.telegram.specs.Telegram.{reading, payloadIn}
 use Rattle.telegram.specs.declared.Telegram.{Telegram}
-use Rattle.command.specs.Casts.{castKind, castValue}
+use Rattle.table.specs.Casts.{castKind, castValue}
+use Rattle.table.specs.declared.Cast.{Cast}
+use Rattle.table.specs.declared.Cast.the-variants.{Everyone, One, Group}
 use Rattle.command.specs.Fields.{wordBytes}
 use Rattle.command.specs.Commands.{Message, numbered, Sent, payloadOf, dissecting, composing, buildingCommand}
-use Rattle.command.specs.Answers.{Reply, answerPayloadOf, dissectingAnswer}
-use Rattle.command.specs.declared.Cast.{Cast}
-use Rattle.command.specs.declared.Cast.the-variants.{Everyone, One, Group}
+use Rattle.answer.specs.Answers.{Reply, answerPayloadOf, dissectingAnswer}
 use Rattle.rules.specs.declared.State.the-variants.{Uninitialized}
 use Rattle.rules.specs.declared.Defaults.{Defaults}
 use Rattle.rules.specs.declared.Lamp.{Lamp}

@@ -1,9 +1,8 @@
 // The C interface: thin exported functions over numbers and byte slices. include/osp.h has their declarations.
+use answer::AnswerDissection;
+use answer::Answered;
 use chain::Delivered;
 use chain::LampRead;
-use command::AnswerDissection;
-use command::Answered;
-use command::Cast;
 use command::Command;
 use command::Composed;
 use command::Dissected;
@@ -14,6 +13,7 @@ use rules::Lamp;
 use rules::Place;
 use rules::State;
 use rules::Thresholds;
+use table::Cast;
 use telegram::Address;
 use telegram::Built;
 use telegram::Read;
@@ -26,10 +26,10 @@ ghost use lib.ListN.{length};
 ghost use Rattle.checksum.specs.Checksum.{checksumOf};
 ghost use Rattle.telegram.specs.Numbers.{done, numberOf, builtAs, fitted, leaves};
 ghost use Rattle.telegram.specs.Telegram.{building};
-ghost use Rattle.command.specs.Casts.{castKind, castValue};
+ghost use Rattle.table.specs.Casts.{castKind, castValue};
 ghost use Rattle.command.specs.Fields.{modeOf};
 ghost use Rattle.command.specs.Commands.{messageOf, sentAs};
-ghost use Rattle.command.specs.Answers.{replyOf};
+ghost use Rattle.answer.specs.Answers.{replyOf};
 ghost use Rattle.chain.specs.Memory.{deliveredAs, delivered, held, made, sensedIn};
 ghost use Rattle.osp.specs.Interface.{packed, returned, readBytes, ospRead, sentBytes, ospDissect, replyBytes, ospDissectAnswer, directing, directedAs, buildingDirected, ospBuildCommand, ospBuildPwm, ospRecordLen, defaultsFrom, returnedBare, lampHead, lampBytes, ospLamp};
 
@@ -130,7 +130,7 @@ fn give_answer(d: Answered, out: &mut [u8]) -> u32
     ensures { λ r. ⌜ now (out .exit) ≡ leaves (fitted (length (now (out .entry))) (replyBytes (replyOf d))) (now (out .entry)) ⌝ }
 {
     let answer = d.answer;
-    let parts = command::answer_parts(answer);
+    let parts = answer::answer_parts(answer);
     let address = d.address;
     let a = address.0;
     let size = parts.size;
@@ -192,7 +192,7 @@ pub extern "C" fn osp_dissect_answer(s: &[u8], out: &mut [u8]) -> u32
     ensures { λ r. ⌜ r ≡ returned (ospDissectAnswer (now (s .entry)) (length (now (out .entry)))) ⌝ }
     ensures { λ r. ⌜ now (out .exit) ≡ leaves (ospDissectAnswer (now (s .entry)) (length (now (out .entry)))) (now (out .entry)) ⌝ }
 {
-    let r = command::dissect_answer(s);
+    let r = answer::dissect_answer(s);
     match r {
         AnswerDissection::Accepted(a) => give_answer(a, out),
         AnswerDissection::Refused(e) => refusal_returned(e),

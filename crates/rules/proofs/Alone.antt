@@ -10,8 +10,8 @@ use lib.Dec.{eqb}
 use borrow.Author.Tests.{eqb-true, eqb-false}
 use Rattle.telegram.specs.Numbers.{Outcome, refused, done}
 use Rattle.telegram.specs.declared.Address.{Address}
+use Rattle.table.specs.declared.Cast.the-variants.{One}
 use Rattle.command.specs.Commands.{Sent, dissecting}
-use Rattle.command.specs.declared.Cast.the-variants.{One}
 use Rattle.rules.specs.declared.Defaults.{Defaults}
 use Rattle.rules.specs.declared.Lamp.{Lamp}
 use Rattle.rules.specs.Lamp.{noAddress, blank, numberedAs}

@@ -6,9 +6,10 @@ use mathlib.Core.List.{List, [], _∷_}
 use Rattle.checksum.specs.Checksum.{shiftBit, remainderByte, checksumOf}
 use Rattle.telegram.specs.Numbers.{Outcome, refused, done, after}
 use Rattle.telegram.specs.Telegram.{framing, reading, unsealed, telegramOf}
-use Rattle.command.specs.Casts.{destination}
+use Rattle.table.specs.Casts.{destination}
+use Rattle.table.specs.Table.{rowOf}
 use Rattle.command.specs.Fields.{layoutOf}
-use Rattle.command.specs.Commands.{rowOf, naming, dissecting}
+use Rattle.command.specs.Commands.{naming, dissecting}
 use Rattle.rules.specs.declared.Defaults.{Defaults}
 use Rattle.rules.specs.Chain.{Chain, fresh, making, isInit, visiting, permitting, responding, delivering, deliver, sensing}
 

@@ -11,10 +11,10 @@ use borrow.Author.Tests.{le-leb, ne-eqb}
 use Rattle.telegram.specs.Numbers.{Outcome, refused, done, after}
 use Rattle.telegram.specs.declared.Address.{Address}
 use Rattle.telegram.proofs.Outcomes.{done-one, passed, went-on}
+use Rattle.table.specs.declared.Cast.{Cast}
+use Rattle.table.specs.declared.Cast.the-variants.{Everyone, One, Group}
 use Rattle.command.specs.Commands.{Sent, dissecting}
-use Rattle.command.specs.declared.Cast.{Cast}
-use Rattle.command.specs.declared.Cast.the-variants.{Everyone, One, Group}
-use Rattle.command.proofs.Both.{and-left, and-right}
+use Rattle.table.proofs.Both.{and-left, and-right}
 use Rattle.command.proofs.RoundTrip.{one-lamp}
 use Rattle.rules.specs.declared.Defaults.{Defaults}
 use Rattle.rules.specs.declared.Lamp.{Lamp}

@@ -15,15 +15,17 @@ use Rattle.telegram.specs.Telegram.{telegramOf}
 use Rattle.telegram.specs.declared.Address.{Address}
 use Rattle.telegram.proofs.Outcomes.{never, done-one, passed}
 use Rattle.telegram.proofs.Building.{Sendable, build-done}
-use Rattle.command.specs.Casts.{addressOf, castInRange}
+use Rattle.table.specs.Casts.{addressOf, castInRange}
+use Rattle.table.specs.Table.{rowOf}
+use Rattle.table.specs.declared.Cast.{Cast}
+use Rattle.table.specs.declared.Cast.the-variants.{Everyone, One, Group}
 use Rattle.command.specs.Fields.{layoutOf}
-use Rattle.command.specs.Commands.{Message, Sent, messageOf, payloadOf, rowOf, dissecting}
-use Rattle.command.specs.declared.Cast.{Cast}
-use Rattle.command.specs.declared.Cast.the-variants.{Everyone, One, Group}
+use Rattle.command.specs.Commands.{Message, Sent, messageOf, payloadOf, dissecting}
 use Rattle.command.specs.declared.Command.{Command}
 use Rattle.command.specs.declared.Command.the-variants.{InitBidir, InitLoop}
-use Rattle.command.proofs.Both.{and-left, and-right}
-use Rattle.command.proofs.Commanding.{Fit, address-le, command-sent}
+use Rattle.table.proofs.Both.{and-left, and-right}
+use Rattle.table.proofs.Destinations.{address-le}
+use Rattle.command.proofs.Commanding.{Fit, command-sent}
 use Rattle.command.proofs.Sound.{sound, command-short}
 use Rattle.command.proofs.RoundTrip.{built-dissects, one-lamp}
 use Rattle.rules.specs.declared.Defaults.{Defaults}

@@ -13,8 +13,8 @@ use borrow.Author.Tests.{eq-eqb, ne-eqb}
 use Rattle.telegram.specs.Numbers.{done}
 use Rattle.telegram.specs.declared.Address.{Address}
 use Rattle.telegram.proofs.Outcomes.{never, done-one}
+use Rattle.table.specs.declared.Cast.the-variants.{One}
 use Rattle.command.specs.Commands.{Message}
-use Rattle.command.specs.declared.Cast.the-variants.{One}
 use Rattle.rules.specs.declared.Defaults.{Defaults}
 use Rattle.rules.specs.declared.Lamp.{Lamp}
 use Rattle.rules.specs.Lamp.{noAddress, changed, acted, answered, obeys}

@@ -7,9 +7,9 @@ use lib.Dec.{eqb, leb, ltb}
 use lib.ListN.{length, set, replicate}
 use Rattle.telegram.specs.Numbers.{Outcome, refused, done, refuse, after}
 use Rattle.telegram.specs.Telegram.{telegramOf}
+use Rattle.table.specs.declared.Cast.{Cast}
+use Rattle.table.specs.declared.Cast.the-variants.{Everyone, One, Group}
 use Rattle.command.specs.Commands.{Message, Sent, dissecting}
-use Rattle.command.specs.declared.Cast.{Cast}
-use Rattle.command.specs.declared.Cast.the-variants.{Everyone, One, Group}
 use Rattle.rules.specs.declared.Defaults.{Defaults}
 use Rattle.rules.specs.declared.Lamp.{Lamp}
 use Rattle.rules.specs.Lamp.{blank, noAddress, report, acted, answered, member, numberedAs, withCE, sensed}

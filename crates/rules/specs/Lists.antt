@@ -8,9 +8,9 @@ use mathlib.Core.List.{List, [], _∷_, _++_}
 use lib.Dec.{eqb}
 use lib.ListN.{length}
 use Rattle.telegram.specs.Numbers.{Outcome, refused, done, refuse, after}
+use Rattle.table.specs.declared.Cast.{Cast}
+use Rattle.table.specs.declared.Cast.the-variants.{Everyone, One, Group}
 use Rattle.command.specs.Commands.{Sent, dissecting}
-use Rattle.command.specs.declared.Cast.{Cast}
-use Rattle.command.specs.declared.Cast.the-variants.{Everyone, One, Group}
 use Rattle.rules.specs.declared.Defaults.{Defaults}
 use Rattle.rules.specs.declared.Lamp.{Lamp}
 use Rattle.rules.specs.Chain.{Chain, making, isInit, roomSmall, deliver, lampIn}

@@ -3,8 +3,8 @@ use crate::Run;
 use crate::Sensor;
 use crate::Style;
 use crate::json;
+use answer::AnswerDissection;
 use chain::Delivered;
-use command::AnswerDissection;
 use command::Dissection;
 use words::put_form;
 
@@ -30,7 +30,7 @@ fn put_command(out: &mut [u8], at: usize, s: &[u8]) -> usize {
 // Appends an answer's bytes and words.
 fn put_answer(out: &mut [u8], at: usize, s: &[u8]) -> usize {
     let a = put_form(out, at, b"\nrx%X%>", &[0, 41], s);
-    let d = command::dissect_answer(s);
+    let d = answer::dissect_answer(s);
     let AnswerDissection::Accepted(answered) = d else {
         return a;
     };

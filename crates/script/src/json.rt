@@ -1,12 +1,12 @@
 // What is printed of each line of a script for machines: an object a line.
 use crate::Run;
 use crate::Sensor;
+use answer::AnswerDissection;
+use answer::Answered;
 use chain::Delivered;
-use command::AnswerDissection;
-use command::Answered;
-use command::Cast;
 use command::Dissected;
 use command::Dissection;
+use table::Cast;
 use words::put_form;
 
 fn put_cast(out: &mut [u8], at: usize, cast: Cast) -> usize {
@@ -50,7 +50,7 @@ fn put_command(out: &mut [u8], at: usize, s: &[u8]) -> usize {
 fn put_answered(out: &mut [u8], at: usize, answered: Answered) -> usize {
     let answer = answered.answer;
     let address = answered.address;
-    let parts = command::answer_parts(answer);
+    let parts = answer::answer_parts(answer);
     let payload = parts.bytes;
     put_form(
         out,
@@ -62,7 +62,7 @@ fn put_answered(out: &mut [u8], at: usize, answered: Answered) -> usize {
 }
 
 fn put_answer(out: &mut [u8], at: usize, s: &[u8]) -> usize {
-    let d = command::dissect_answer(s);
+    let d = answer::dissect_answer(s);
     let AnswerDissection::Accepted(answered) = d else {
         return at;
     };

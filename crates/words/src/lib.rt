@@ -2,9 +2,8 @@
 // forms. A function named `put_..` appends to a lent buffer of which `at` bytes are used, and answers how many are used then.
 mod names;
 
-use command::Answer;
-use command::Answered;
-use command::Cast;
+use answer::Answer;
+use answer::Answered;
 use command::Command;
 use command::Dissected;
 use command::Pwm;
@@ -12,6 +11,7 @@ pub use names::Named;
 pub use names::command_named;
 pub use names::put_code;
 pub use names::row_of;
+use table::Cast;
 
 // The value at an index, 0 where there is none.
 fn value_at(values: &[u64], i: usize) -> u64 {
@@ -196,7 +196,7 @@ fn put_answer_values(out: &mut [u8], at: usize, answer: Answer) -> usize {
 pub fn put_answer(out: &mut [u8], at: usize, answered: Answered) -> usize {
     let answer = answered.answer;
     let address = answered.address;
-    let parts = command::answer_parts(answer);
+    let parts = answer::answer_parts(answer);
     let a = put_form(
         out,
         at,

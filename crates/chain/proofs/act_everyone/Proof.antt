@@ -3,7 +3,7 @@
 use mathlib.Core.Path.{_≡_, _∙_, refl, ap, sym}
 use mathlib.Core.List.{List}
 use Prim.Native.Nat.{ℕ}
-use Rattle.command.specs.Commands.{payloadSizeOf}
+use Rattle.table.specs.Table.{payloadSizeOf}
 use Rattle.rules.specs.declared.Defaults.{Defaults}
 use Rattle.rules.specs.declared.Lamp.{Lamp}
 use Rattle.rules.specs.Lamp.{changed, acted}

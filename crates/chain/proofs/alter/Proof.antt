@@ -2,9 +2,9 @@
 -- Assumes nothing.
 use mathlib.Core.Path.{_∙_, refl, ap, ap₂, sym}
 use native.Mathlib.Omega.{arith}
+use Rattle.table.specs.Table.{rowOf, payloadSizeOf}
 use Rattle.command.specs.Fields.{layoutOf}
-use Rattle.command.specs.Commands.{rowOf, payloadSizeOf}
-use Rattle.command.proofs.Table.{sized}
+use Rattle.table.proofs.Table.{sized}
 use Rattle.rules.specs.declared.State.the-variants.{Sleep, Active, DeepSleep}
 use Rattle.rules.specs.Lamp.{changed, reset, withFlags, withState, withGroups, withThresholds, withSetup, withPwm}
 use Rattle.chain.specs.Places.{lampAt, withLamp}

@@ -5,10 +5,10 @@ use mathlib.Core.Bool.{true}
 use native.Mathlib.Omega.{arith}
 use lib.Dec.{leb}
 use borrow.Author.Tests.{leb-true}
-use Rattle.command.specs.declared.Cast.{Cast}
-use Rattle.command.specs.declared.Cast.the-variants.{One}
-use Rattle.command.specs.Casts.{castInRange}
-use Rattle.command.proofs.Both.{and-right}
+use Rattle.table.specs.declared.Cast.{Cast}
+use Rattle.table.specs.declared.Cast.the-variants.{One}
+use Rattle.table.specs.Casts.{castInRange}
+use Rattle.table.proofs.Both.{and-right}
 use Rattle.chain.specs.Helpers.{respondedIn, initOf}
 use Rattle.chain.proofs.Records.{chain-in}
 use Rattle.chain.proofs.Responding.{told, told-as, init-group}

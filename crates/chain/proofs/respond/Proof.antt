@@ -6,10 +6,10 @@ use Prim.Native.Nat.{_≤_}
 use native.Mathlib.Omega.{arith}
 use lib.Dec.{leb}
 use borrow.Author.Tests.{leb-true, lt-ltb}
-use Rattle.command.specs.declared.Cast.{Cast}
-use Rattle.command.specs.declared.Cast.the-variants.{One, Group}
-use Rattle.command.specs.Casts.{castInRange}
-use Rattle.command.proofs.Both.{and-right}
+use Rattle.table.specs.declared.Cast.{Cast}
+use Rattle.table.specs.declared.Cast.the-variants.{One, Group}
+use Rattle.table.specs.Casts.{castInRange}
+use Rattle.table.proofs.Both.{and-right}
 use Rattle.chain.specs.declared.Reach.the-variants.{Everyone as All, Members}
 use Rattle.chain.specs.Helpers.{respondedIn, reachedIn, commandIn, sentIn}
 use Rattle.chain.proofs.Records.{chain-in}

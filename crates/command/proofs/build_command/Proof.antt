@@ -10,11 +10,13 @@ use lib.Seq.{length-take-le}
 use Rattle.telegram.specs.Numbers.{counted}
 use Rattle.telegram.proofs.Outcomes.{told-refused, told-same}
 use Rattle.telegram.proofs.Building.{Sendable}
-use Rattle.command.specs.Casts.{addressOf, castInRange}
+use Rattle.table.specs.Casts.{addressOf, castInRange}
+use Rattle.table.specs.Table.{rowOf, listsCast}
 use Rattle.command.specs.Fields.{layoutOf, dutiesInRange}
-use Rattle.command.specs.Commands.{messageOf, payloadOf, rowOf, listsCast}
+use Rattle.command.specs.Commands.{messageOf, payloadOf}
+use Rattle.table.proofs.Destinations.{address-le}
 use Rattle.command.proofs.LaidOut.{LaidOut, laid-out}
-use Rattle.command.proofs.Commanding.{Fit, address-le, command-range, command-duty, command-cast, command-sent}
+use Rattle.command.proofs.Commanding.{Fit, command-range, command-duty, command-cast, command-sent}
 use Rattle.command.proofs.Sound.{sound}
 use Rattle.command.proofs.build_command.Statement.{statement}
 use Rattle.command.proofs.build_command.Tie as tie

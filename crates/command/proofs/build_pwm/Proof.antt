@@ -9,13 +9,15 @@ use lib.Seq.{length-take-le}
 use Rattle.telegram.specs.Numbers.{counted}
 use Rattle.telegram.proofs.Outcomes.{told-refused, told-same}
 use Rattle.telegram.proofs.Building.{Sendable}
-use Rattle.command.specs.Casts.{addressOf, castInRange}
+use Rattle.table.specs.Casts.{addressOf, castInRange}
+use Rattle.table.specs.Table.{rowOf}
 use Rattle.command.specs.Fields.{pwm, layoutOf, pwmFields}
-use Rattle.command.specs.Commands.{Message, numbered, payloadOf, rowOf}
+use Rattle.command.specs.Commands.{Message, numbered, payloadOf}
 use Rattle.command.specs.declared.Command.the-variants.{SetPwm}
 use Rattle.command.specs.declared.Pwm.{Pwm}
+use Rattle.table.proofs.Destinations.{address-le}
 use Rattle.command.proofs.LaidOut.{LaidOut, laid-out}
-use Rattle.command.proofs.Commanding.{Fit, address-le, command-range, command-duty, command-sent}
+use Rattle.command.proofs.Commanding.{Fit, command-range, command-duty, command-sent}
 use Rattle.command.proofs.Sound.{sound}
 use Rattle.command.proofs.build_pwm.Statement.{statement}
 use Rattle.command.proofs.build_pwm.Tie as tie

@@ -6,9 +6,9 @@ use mathlib.Core.List.{List, [], _∷_}
 use Prim.Native.Nat.{ℕ}
 use native.Mathlib.Omega.{arith}
 use Rattle.telegram.specs.Numbers.{Outcome, refused, done}
+use Rattle.table.specs.Table.{rowOf, payloadSizeOf}
 use Rattle.command.specs.Fields.{layoutOf}
-use Rattle.command.specs.Commands.{rowOf, payloadSizeOf}
-use Rattle.command.proofs.Table.{sized, only-left}
+use Rattle.table.proofs.Table.{sized, only-left}
 use Rattle.command.proofs.Layouts.{spread, keyed, pwm-six}
 use Rattle.command.proofs.command_of.Statement.{statement}
 use Rattle.command.proofs.command_of.Tie as tie

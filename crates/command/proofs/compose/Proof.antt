@@ -6,7 +6,7 @@ use borrow.Author.Tests.{eqb-true, not-true, not-false}
 use lib.ListN.{length}
 use mathlib.Core.Bool.{true}
 use Rattle.telegram.specs.Numbers.{done}
-use Rattle.command.specs.Commands.{rowOf, entryAs, payloadFits}
+use Rattle.table.specs.Table.{rowOf, entryAs, payloadFits}
 use Rattle.command.proofs.Naming.{compose-unknown, compose-size, compose-done}
 use Rattle.command.proofs.compose.Statement.{statement}
 use Rattle.command.proofs.compose.Tie as tie

@@ -4,8 +4,8 @@ use mathlib.Core.Path.{_≡_, _∙_, refl, sym, ap}
 use borrow.Author.Needs.{needs}
 use borrow.Author.Tests.{not-true, not-false}
 use Rattle.telegram.specs.Numbers.{done}
-use Rattle.command.specs.Casts.{destination, destinationAs}
-use Rattle.command.specs.Commands.{rowOf, entryAs}
+use Rattle.table.specs.Casts.{destination, destinationAs}
+use Rattle.table.specs.Table.{rowOf, entryAs}
 use Rattle.command.proofs.Naming.{name-unknown, name-nobody, name-cast, name-size, name-done}
 use Rattle.command.proofs.heading_of.Statement.{statement}
 use Rattle.command.proofs.heading_of.Tie as tie

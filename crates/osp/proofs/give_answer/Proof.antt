@@ -6,10 +6,9 @@ use borrow.Author.Needs.{needs}
 use lib.ListN.{length}
 use Rattle.telegram.specs.Numbers.{fitted}
 use Rattle.telegram.proofs.Outcomes.{told-same}
-use Rattle.command.specs.Fields.{answerLayoutOf}
-use Rattle.command.specs.Answers.{answerMessageOf, replyOf}
+use Rattle.answer.specs.Answers.{answerLayoutOf, answerMessageOf, replyOf}
 use Rattle.command.proofs.LaidOut.{LaidOut, laid-out}
-use Rattle.command.proofs.Sound.{answer-short}
+use Rattle.answer.proofs.Widths.{answer-short}
 use Rattle.osp.specs.Interface.{returned}
 use Rattle.osp.proofs.Giving.{parts-short, parts-taken, reply-bytes}
 use Rattle.osp.proofs.give_answer.Statement.{statement}

@@ -5,7 +5,7 @@ use native.Mathlib.Omega.{arith}
 use borrow.Author.Needs.{needs}
 use Rattle.telegram.proofs.Outcomes.{after-refused, after-done, told-refused, told-same}
 use Rattle.command.specs.Commands.{composedAs}
-use Rattle.command.proofs.Table.{row-high}
+use Rattle.table.proofs.Table.{row-high}
 use Rattle.command.proofs.Naming.{compose-unknown}
 use Rattle.osp.specs.Interface.{returned, ospBuildCommand}
 use Rattle.osp.proofs.osp_build_command.Statement.{statement}

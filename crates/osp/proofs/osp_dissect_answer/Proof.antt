@@ -3,7 +3,7 @@
 use mathlib.Core.Path.{_∙_, sym, ap}
 use borrow.Author.Needs.{needs}
 use Rattle.telegram.proofs.Outcomes.{after-refused, after-done, told-refused, told-same}
-use Rattle.command.specs.Answers.{replyAs}
+use Rattle.answer.specs.Answers.{replyAs}
 use Rattle.osp.specs.Interface.{returned, ospDissectAnswer}
 use Rattle.osp.proofs.osp_dissect_answer.Statement.{statement}
 use Rattle.osp.proofs.osp_dissect_answer.Tie as tie

@@ -1,0 +1,4 @@
+pub mod Widths
+pub mod Answering
+pub mod RoundTrip
+pub mod AsMarked

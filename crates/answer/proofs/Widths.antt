@@ -1,0 +1,31 @@
+-- How many bytes answers have: those of the table are as many as the layout wants, and none has more than 8.
+-- Assumes nothing.
+use mathlib.Core.Path.{_≡_}
+use mathlib.Core.List.{List}
+use Prim.Native.Nat.{ℕ, _≤_}
+use lib.Dec.{lit≤}
+use lib.ListN.{length}
+use Rattle.telegram.specs.Numbers.{done}
+use Rattle.table.specs.Table.{rowOf, answerSizeOf}
+use Rattle.answer.specs.Answers.{answerMessageOf, answerLayoutOf, answerPayloadOf}
+use Rattle.answer.specs.declared.Answer.{Answer}
+use Rattle.answer.specs.declared.Answer.the-variants.{InitBidir, InitLoop, Identity, Mask, Status, TempStatus, Temp, Thresholds, Setup, Words}
+use Rattle.command.proofs.Layouts.{Wide, is-size, agrees, wide}
+
+pub answer-wide : (n : ℕ) → n ≤ 127 → (p : List ℕ) → answerSizeOf n ≡ done (length p) → Wide (answerLayoutOf n) p
+unfolding agrees is-size answerLayoutOf rowOf
+answer-wide = wide answerLayoutOf answerSizeOf tt
+
+-- No answer is longer than 8 bytes.
+pub answer-short : (a : Answer) → length (answerPayloadOf (answerMessageOf a)) ≤ 8
+unfolding answerLayoutOf
+answer-short (InitBidir t x) = lit≤ tt
+answer-short (InitLoop t x) = lit≤ tt
+answer-short (Identity x) = lit≤ tt
+answer-short (Mask x) = lit≤ tt
+answer-short (Status x) = lit≤ tt
+answer-short (TempStatus t x) = lit≤ tt
+answer-short (Temp t) = lit≤ tt
+answer-short (Thresholds x y z) = lit≤ tt
+answer-short (Setup x) = lit≤ tt
+answer-short (Words r g b) = lit≤ tt

@@ -1,0 +1,48 @@
+-- `answer::answer_parts` meets its contract: an arm for each case.
+-- Assumes nothing.
+use mathlib.Core.Path.{_∙_, ap, sym}
+use borrow.Author.Needs.{needs}
+use Rattle.command.specs.declared.Parts.{Parts}
+use Rattle.answer.specs.Answers.{answerLayoutOf, answerMessageOf, answerLaidOut}
+use Rattle.answer.specs.declared.Answer.{Answer}
+use Rattle.answer.proofs.answer_parts.Statement.{statement}
+use Rattle.answer.proofs.answer_parts.Tie as tie
+
+laid : Answer → Parts
+laid x = answerLaidOut (answerMessageOf x)
+
+pub answer-parts-spec : {M : Type 1} → statement M
+unfolding laid answerLayoutOf
+answer-parts-spec =
+    tie.close
+    (tie.spec
+    (λ c. search needs)
+    (λ c κs. tt)
+    (λ c. search needs)
+    (λ c κs. tt)
+    (λ c. search needs)
+    (λ c κs. tt)
+    (λ c. search needs)
+    (λ c κs. tt)
+    (λ c. search needs)
+    (λ c κs. tt)
+    (λ c. search needs)
+    (λ c κs. tt)
+    (λ c. search needs)
+    (λ c κs. tt)
+    (λ c. search needs)
+    (λ c κs. tt)
+    (λ c. search needs)
+    (λ c κs. tt)
+    (λ c. search needs)
+    (λ c κs. tt)
+    (λ c. c .two-bytes .ensures ∙ ap laid (sym (c .before .before .a .given .1)))
+    (λ c. c .two-bytes2 .ensures ∙ ap laid (sym (c .before .before .a2 .given .1)))
+    (λ c. c .long-parts .ensures ∙ ap laid (sym (c .before .before .a3 .given .1)))
+    (λ c. c .word-parts .ensures ∙ ap laid (sym (c .before .before .a4 .given .1)))
+    (λ c. c .one-byte .ensures ∙ ap laid (sym (c .before .before .a5 .given .1)))
+    (λ c. c .two-bytes3 .ensures ∙ ap laid (sym (c .before .before .a6 .given .1)))
+    (λ c. c .one-byte2 .ensures ∙ ap laid (sym (c .before .before .a7 .given .1)))
+    (λ c. c .three-bytes .ensures ∙ ap laid (sym (c .before .before .a8 .given .1)))
+    (λ c. c .one-byte3 .ensures ∙ ap laid (sym (c .before .before .a9 .given .1)))
+    (λ c. c .pwm-parts .ensures ∙ ap laid (sym (c .before .before .a10 .given .1))))

@@ -1,0 +1,106 @@
+-- The table of commands: its rows by ranges, and the numbers that it has not.
+-- Assumes nothing.
+use mathlib.Core.Path.{_≡_, sym, ap, _∙_, subst}
+use mathlib.Core.Bool.{Bool, true, false, _||_}
+use mathlib.Core.List.{List, [], _∷_}
+use Prim.Native.Nat.{ℕ, _+_, _-_, _≤_, _<_}
+use native.Mathlib.Omega.{arith}
+use lib.Dec.{T, leb, eqb, eqb→eq}
+use lib.ListN.{length, take, drop, length-take, length-drop}
+use borrow.Author.Tests.{le-leb, lt-leb, ne-eqb, eqb-true}
+use Rattle.checksum.proofs.Below.{below}
+use Rattle.telegram.specs.Numbers.{Outcome, refused, done}
+use Rattle.telegram.proofs.Outcomes.{done-one}
+use Rattle.table.specs.Table.{row, rowOf, payloadFits, payloadSizeOf, answerSizeOf}
+use Rattle.table.specs.declared.Casts.the-variants.{All, First}
+use Rattle.table.specs.declared.Row.{Row}
+use Rattle.table.proofs.Keys.{member, NoneOf, elsewhere}
+
+pub row-00-01 : (n : ℕ) → n < 2 → row All 0 0 ≡ rowOf n
+unfolding rowOf
+row-00-01 n h = simp (le-leb n 1 (omega arith))
+
+pub row-02-03 : (n : ℕ) → 2 ≤ n → n < 4 → row First 0 2 ≡ rowOf n
+unfolding rowOf
+row-02-03 n l h = simp (lt-leb n 1 l, le-leb n 3 (omega arith))
+
+pub row-04-06 : (n : ℕ) → 2 ≤ n → 4 ≤ n → n < 7 → row All 0 0 ≡ rowOf n
+unfolding rowOf
+row-04-06 n l m h = simp (lt-leb n 1 l, lt-leb n 3 m, le-leb n 6 (omega arith))
+
+-- The numbers that stand in the table by themselves, the last first.
+abbrev pub keys : List ℕ
+keys = 0x4F ∷ 0x4E ∷ 0x4D ∷ 0x4C ∷ 0x4B ∷ 0x4A ∷ 0x48 ∷ 0x42 ∷ 0x40 ∷ 0x0D ∷ 0x0C ∷ 0x07 ∷ []
+
+-- The table has no row for a number: 6.
+absent : Outcome Row → Bool
+absent (refused n) = eqb n 6
+absent (done r) = false
+
+absent-is : (o : Outcome Row) → T (absent o) → refused 6 ≡ o
+unfolding absent
+absent-is (refused n) t = ap refused (sym (eqb→eq n 6 t))
+absent-is (done r) t = absurd t
+
+T-or : (a b : Bool) → a ≡ false → T (a || b) → T b
+T-or a b e t = subst (λ (x : Bool). T (x || b)) e t
+
+-- A number past the ranges that does not stand by itself is unknown: one test at each byte.
+pub row-unknown : (n : ℕ) → n < 256 → 7 ≤ n → NoneOf keys n → refused 6 ≡ rowOf n
+unfolding rowOf absent
+row-unknown n h l k =
+    absent-is (rowOf n)
+    (T-or (leb n 6) (absent (rowOf n)) (lt-leb n 6 l) (elsewhere (λ (m : ℕ). leb m 6 || absent (rowOf m)) keys tt n h k))
+
+-- The table has no row past 4F.
+pub row-high : (n : ℕ) → 0x4F < n → refused 6 ≡ rowOf n
+unfolding rowOf
+row-high n h =
+    simp (
+      lt-leb n 0x01 (omega arith),
+      lt-leb n 0x03 (omega arith),
+      lt-leb n 0x06 (omega arith),
+      past 0x07 (omega arith),
+      past 0x0C (omega arith),
+      past 0x0D (omega arith),
+      past 0x40 (omega arith),
+      past 0x42 (omega arith),
+      past 0x48 (omega arith),
+      past 0x4A (omega arith),
+      past 0x4B (omega arith),
+      past 0x4C (omega arith),
+      past 0x4D (omega arith),
+      past 0x4E (omega arith),
+      past 0x4F (omega arith),
+    )
+  where
+    past : (k : ℕ) → k < n → eqb n k ≡ false
+    past k l = ne-eqb n k (λ (e : n ≡ k). omega arith)
+
+-- The size that the table has for a number k is the one it has for n, where n is k.
+pub sized : {n k x : ℕ} (size : ℕ → Outcome ℕ) (j : ℕ) → n ≡ k → size k ≡ done j → size n ≡ done x → x ≡ j
+sized {n} {k} {x} size j e s h = sym (done-one (sym s ∙ sym (ap size e) ∙ h))
+
+-- A number that a list of numbers has not, and that a test does not exclude by its size, is the only one left: one test at each byte.
+pub only-left : (excluded : Outcome ℕ → Bool) (size : ℕ → Outcome ℕ) (ks : List ℕ) (k : ℕ)
+    → T (below (λ (m : ℕ). member m ks || (excluded (size m) || eqb m k)) 256)
+    → (n : ℕ) → n < 256 → NoneOf ks n → excluded (size n) ≡ false → n ≡ k
+only-left excluded size ks k t n h no-key e =
+    eqb→eq n k
+    (T-or (excluded (size n)) (eqb n k) e (elsewhere (λ (m : ℕ). excluded (size m) || eqb m k) ks t n h no-key))
+
+-- The part of a slice behind its first three bytes that is lent has as many bytes as were asked for.
+part-length : (s : List ℕ) (k j : ℕ) → k ≡ j → 3 + k ≤ length s → j ≡ length (take (3 + k - 3) (drop 3 s))
+part-length s k j e h = simp (length-take, length-drop) (omega arith)
+
+-- Where the table has a row for a number, the part has the payload size, or the answer size, that the row says.
+pub part-payload : (n : ℕ) (r : Row) (s : List ℕ) (k : ℕ) → rowOf n ≡ done r → payloadFits r k ≡ true → 3 + k ≤ length s
+    → payloadSizeOf n ≡ done (length (take (3 + k - 3) (drop 3 s)))
+part-payload n r s k e f h = simp e (ap done (part-length s k (r .payload) (eqb-true k (r .payload) f) h))
+
+pub part-answer : (n : ℕ) (r : Row) (s : List ℕ) (k : ℕ) → rowOf n ≡ done r → k ≡ r .answer → 3 + k ≤ length s
+    → (r .answer ≡ 0 → ⊥)
+    → (answerSizeOf n ≡ done (length (take (3 + k - 3) (drop 3 s)))) × (0 < length (take (3 + k - 3) (drop 3 s)))
+part-answer n r s k e f h z =
+    let l = part-length s k (r .answer) f h in
+    (simp e (ap done l), omega arith)
