@@ -57,28 +57,32 @@ fn group_at(line: &[u8], at: usize) -> Directed {
 fn direction_in(line: &[u8]) -> Directed {
     let w = text::reading::word_at(line, 0);
     let word = word_in(line, w);
-    if check::same(word, b"everyone") {
-        return Directed::To(Cast::Everyone, w.to);
+    match text::line_in(b"everyone\ngroup\n", word) {
+        0 => Directed::To(Cast::Everyone, w.to),
+        1 => group_at(line, w.to),
+        _ => addressed(word, w.to),
     }
-    if check::same(word, b"group") {
-        return group_at(line, w.to);
-    }
+}
+
+// The cast that a hex address says.
+fn addressed(word: &[u8], at: usize) -> Directed {
     let n = text::reading::address_of(word);
     match n {
-        Number::Value(value) => Directed::To(cast_of(value), w.to),
+        Number::Value(value) => Directed::To(cast_of(value), at),
         Number::Wrong => Directed::Nobody,
     }
 }
 
-fn is_mode(word: &[u8]) -> bool {
-    bits::or(check::same(word, b"night"), check::same(word, b"day"))
+// The mode that a word says: 0 night, 1 day, 2 none.
+fn mode_of(word: &[u8]) -> usize {
+    text::line_in(b"night\nday\n", word)
 }
 
 // A mode and a duty. A duty above 65,535 is taken as that, which is out of range too.
 fn colour_at(line: &[u8], at: usize) -> Colour {
     let mode = text::reading::word_at(line, at);
-    let word = word_in(line, mode);
-    if !is_mode(word) {
+    let day = mode_of(word_in(line, mode));
+    if 1 < day {
         return Colour::Wrong;
     }
     let w = text::reading::word_at(line, mode.to);
@@ -87,7 +91,7 @@ fn colour_at(line: &[u8], at: usize) -> Colour {
         return Colour::Wrong;
     };
     let pwm = Pwm {
-        day: check::same(word, b"day"),
+        day: day == 1,
         duty: if duty < 65535 { duty as u16 } else { 65535 },
     };
     Colour::Of(pwm, w.to)
@@ -130,31 +134,37 @@ fn bytes_at(line: &[u8], at: usize, number: u8) -> Composition {
 fn command_at(line: &[u8], at: usize, number: u8) -> Composition {
     let w = text::reading::word_at(line, at);
     if number == 0x4F {
-        if is_mode(word_in(line, w)) {
+        if mode_of(word_in(line, w)) < 2 {
             return colours_at(line, at);
         }
     }
     bytes_at(line, at, number)
 }
 
+// Prints the bytes of a telegram, without the space before the first.
+fn print_bytes(s: &[u8], err: i32) -> u8 {
+    let mut page = [0u8; 40];
+    let n = words::put_form(&mut page, 0, b"", b"%X\n", [0; 8], s);
+    complaint::finish(
+        err,
+        complaint::BUILD,
+        text::from(&page, 1),
+        std::num::wrapping_sub_usize(n, 1),
+        0,
+    )
+}
+
 // Prints the telegram of a command.
 fn print(command: Command, cast: Cast, err: i32) -> u8 {
     let mut telegram = [0u8; 12];
-    let mut page = [0u8; 40];
     let b = command::build_command(command, cast, &mut telegram);
     match b {
-        Built::Done(n) => {
-            let k = text::put_spaced_hex(&mut page, 0, text::first(&telegram, n));
-            let m = text::put(&mut page, k, b"\n");
-            complaint::finish(
-                err,
-                b"build",
-                text::from(&page, 1),
-                std::num::wrapping_sub_usize(m, 1),
-                0,
-            )
-        }
-        Built::Refused(e) => complaint::say_refusal(err, b"build", telegram::refusal_number(e)),
+        Built::Done(n) => print_bytes(text::first(&telegram, n), err),
+        Built::Refused(e) => complaint::say_refusal(
+            err,
+            complaint::BUILD,
+            telegram::refusal_number(e),
+        ),
     }
 }
 
@@ -162,27 +172,19 @@ fn build_values(line: &[u8], at: usize, number: u8, cast: Cast, err: i32) -> u8 
     let c = command_at(line, at, number);
     match c {
         Composition::Done(command) => print(command, cast, err),
-        Composition::Refused(n) => complaint::say_refusal(err, b"build", n),
-        Composition::Wrong => complaint::say(
-            err,
-            b"build",
-            b"expected the payload in hex; setpwm also takes three of 'night DUTY' or 'day DUTY'",
-        ),
+        Composition::Refused(n) => complaint::say_refusal(err, complaint::BUILD, n),
+        Composition::Wrong => complaint::say(err, complaint::BUILD, complaint::PAYLOAD_EXPECTED),
     }
 }
 
 fn build_command(line: &[u8], at: usize, cast: Cast, err: i32) -> u8 {
     let w = text::reading::word_at(line, at);
     let word = word_in(line, w);
-    let named = words::command_named(word);
+    let book = words::book();
+    let named = words::command_named(&book, word);
     match named {
         Named::Command(number) => build_values(line, w.to, number, cast, err),
-        Named::Nothing => complaint::say_word(
-            err,
-            b"build",
-            word,
-            b"is no command; osp info lists them",
-        ),
+        Named::Nothing => complaint::say_word(err, complaint::BUILD, complaint::NO_COMMAND, word),
     }
 }
 
@@ -190,11 +192,7 @@ fn build_line(line: &[u8], err: i32) -> u8 {
     let d = direction_in(line);
     match d {
         Directed::To(cast, at) => build_command(line, at, cast, err),
-        Directed::Nobody => complaint::say(
-            err,
-            b"build",
-            b"expected ADDRESS COMMAND [VALUES]: a hex address, everyone, or group N, then a command",
-        ),
+        Directed::Nobody => complaint::say(err, complaint::BUILD, complaint::ADDRESS_EXPECTED),
     }
 }
 

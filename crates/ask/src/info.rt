@@ -2,15 +2,50 @@
 use table::Casts;
 use table::Entry;
 use table::Row;
-use text::put;
 use words::Named;
-use words::put_form;
+use words::Told;
+use words::values_told;
 
-// What a command does, by its row.
-fn put_description(out: &mut [u8], at: usize, number: u8) -> usize {
-    put(
+// Which of three forms goes with a column of casts.
+fn form_of(casts: Casts) -> u8 {
+    match casts {
+        Casts::All => 0,
+        Casts::Single => 1,
+        Casts::First => 2,
+    }
+}
+
+// Appends a form: 0 to 2 a row of the list, 3 to 5 a block, 6 and 7 the block's payload, with and without an answer.
+fn put_told(out: &mut [u8], at: usize, book: &[u8], told: Told, s: &[u8]) -> usize {
+    let values = told.values;
+    words::put_form(
         out,
         at,
+        book,
+        text::page_of(
+            b"%b  %c%>one group everyone%>      %d      %d %t\n%;
+|%b  %c%>one%>      %d      %d %t\n%;
+|%b  %c%>first address, 000%>      %d      %d %t\n%;
+|TELEGRAM %b: %c\nDESCRIPTION: %t\nCASTING    : one group everyone\nPAYLOAD    : %;
+|TELEGRAM %b: %c\nDESCRIPTION: %t\nCASTING    : one\nPAYLOAD    : %;
+|TELEGRAM %b: %c\nDESCRIPTION: %t\nCASTING    : first address, 000\nPAYLOAD    : %;
+|%d; response %d%t\n%;
+|%d%t; response none\n%;
+",
+            told.row as usize,
+        ),
+        values,
+        s,
+    )
+}
+
+// Appends a form with what a command does.
+fn put_described(out: &mut [u8], at: usize, book: &[u8], told: Told, number: u8) -> usize {
+    put_told(
+        out,
+        at,
+        book,
+        told,
         text::line_of(
             b"forgets address, groups and PWM; setup and thresholds to their defaults; state UNINITIALIZED
 clears the five flags
@@ -37,11 +72,13 @@ stores the three PWM words, red, green and blue, each a mode and a duty
     )
 }
 
-// The bytes of a payload or an answer by name, by the command's row; a command has only one of the two.
-fn put_bytes(out: &mut [u8], at: usize, number: u8) -> usize {
-    put(
+// Appends a form with the bytes of a payload or an answer by name; a command has only one of the two.
+fn put_bytes(out: &mut [u8], at: usize, book: &[u8], told: Told, number: u8) -> usize {
+    put_told(
         out,
         at,
+        book,
+        told,
         text::line_of(
             b"
 
@@ -68,108 +105,79 @@ fn put_bytes(out: &mut [u8], at: usize, number: u8) -> usize {
     )
 }
 
-fn put_payload(out: &mut [u8], at: usize, number: u8, row: Row) -> usize {
-    let payload = row.payload as u64;
-    let answer = row.answer as u64;
-    if answer != 0 {
-        let a = put_form(out, at, b"%d; response %d", &[payload, answer], b"");
-        return put_bytes(out, a, number);
-    }
-    let a = put_form(out, at, b"%d", &[payload], b"");
-    let b = put_bytes(out, a, number);
-    put(out, b, b"; response none")
-}
-
-fn put_casts(out: &mut [u8], at: usize, casts: Casts) -> usize {
-    match casts {
-        Casts::All => put(out, at, b"one group everyone"),
-        Casts::Single => put(out, at, b"one"),
-        Casts::First => put(out, at, b"first address, 000"),
-    }
-}
-
-fn put_row(out: &mut [u8], at: usize, number: u8, row: Row) -> usize {
+// The row of a command in the list.
+fn row_told(number: u8, row: Row) -> Told {
     let casts = row.casts;
     let n = number as u64;
-    let a = put_form(out, at, b"%b  %c%>", &[n, n, 17], b"");
-    let b = put_casts(out, a, casts);
-    let c = text::put_spaces(out, b, at, 36);
-    let d = put_form(
-        out,
-        c,
-        b"      %d      %d ",
-        &[row.payload as u64, row.answer as u64],
-        b"",
-    );
-    let e = put_description(out, d, number);
-    put(out, e, b"\n")
+    Told {
+        row: form_of(casts),
+        values: [n, n, 17, 36, row.payload as u64, row.answer as u64, 0, 0],
+    }
 }
 
-// The row of a number, if the table has it.
-fn put_known(out: &mut [u8], at: usize, number: u8) -> usize {
+// Appends the row of a number, if the table has it.
+fn put_known(out: &mut [u8], at: usize, book: &[u8], number: u8) -> usize {
     let entry = table::row_of(number);
     let Entry::Known(row) = entry else {
         return at;
     };
-    put_row(out, at, number, row)
+    put_described(out, at, book, row_told(number, row), number)
 }
 
-fn put_rows(out: &mut [u8], at: usize) -> usize {
+fn put_rows(out: &mut [u8], at: usize, book: &[u8]) -> usize {
     let mut a = at;
     let mut number: u8 = 0;
     while number < 0x80 {
-        a = put_known(out, a, number);
+        a = put_known(out, a, book, number);
         number += 1;
     }
     a
 }
 
-fn print_all(err: i32) -> u8 {
+fn print_all(book: &[u8], err: i32) -> u8 {
     let mut page = io::buffer();
-    let a = put(
+    let a = text::put(
         &mut page,
         0,
         b"hex name         casts              payload answer what it does\n",
     );
-    let n = put_rows(&mut page, a);
-    complaint::finish(err, b"info", &page, n, 0)
+    let n = put_rows(&mut page, a, book);
+    complaint::finish(err, complaint::INFO, &page, n, 0)
 }
 
-fn put_block(out: &mut [u8], number: u8, row: Row) -> usize {
+fn block_told(number: u8, row: Row) -> Told {
     let casts = row.casts;
     let n = number as u64;
-    let a = put_form(out, 0, b"TELEGRAM %b: %c\nDESCRIPTION: ", &[n, n], b"");
-    let b = put_description(out, a, number);
-    let c = put(out, b, b"\nCASTING    : ");
-    let d = put_casts(out, c, casts);
-    let e = put(out, d, b"\nPAYLOAD    : ");
-    put_payload(out, e, number, row)
+    values_told(3 + form_of(casts) % 3, n, n, 0, 0)
 }
 
-fn print_one(number: u8, err: i32) -> u8 {
+// What the payload and the answer are: without an answer, the first value stands alone.
+fn payload_told(row: Row) -> Told {
+    let payload = row.payload as u64;
+    let answer = row.answer as u64;
+    values_told(if answer == 0 { 7 } else { 6 }, payload, answer, 0, 0)
+}
+
+fn print_one(book: &[u8], number: u8, err: i32) -> u8 {
     let mut page = io::buffer();
     let entry = table::row_of(number);
     let Entry::Known(row) = entry else {
         return 2;
     };
-    let a = put_block(&mut page, number, row);
-    let n = put(&mut page, a, b"\n");
-    complaint::finish(err, b"info", &page, n, 0)
+    let a = put_described(&mut page, 0, book, block_told(number, row), number);
+    let n = put_bytes(&mut page, a, book, payload_told(row), number);
+    complaint::finish(err, complaint::INFO, &page, n, 0)
 }
 
 // The subcommand.
 pub fn info(word: &[u8], err: i32) -> u8 {
+    let book = words::book();
     if word.len() == 0 {
-        return print_all(err);
+        return print_all(&book, err);
     }
-    let named = words::command_named(word);
+    let named = words::command_named(&book, word);
     match named {
-        Named::Command(number) => print_one(number, err),
-        Named::Nothing => complaint::say_word(
-            err,
-            b"info",
-            word,
-            b"is no command; osp info lists them",
-        ),
+        Named::Command(number) => print_one(&book, number, err),
+        Named::Nothing => complaint::say_word(err, complaint::INFO, complaint::NO_COMMAND, word),
     }
 }

@@ -1,30 +1,27 @@
-// osp replay: a script of telegrams and sensor reports done on a fresh chain, and the chain after it. docs/TOOL.md has the forms.
-pub mod arguments;
-pub mod lamps;
-
-use arguments::Options;
+// osp replay and osp board: a script of telegrams and sensor reports done on a fresh chain, and the chain after it, as a table, as JSON
+// or as a picture. docs/TOOL.md has the forms.
 use chain::Delivered;
 use chain::LampRead;
+use lamps::Look;
+use lines::Style;
+use options::Options;
 use rules::Defaults;
 use rules::Place;
 use rules::Thresholds;
 use script::Run;
 use script::Stop;
-use script::Style;
 
 // The memory of a chain: enough for the largest.
-pub fn chain_memory() -> [u8; 16384] {
+fn chain_memory() -> [u8; 16384] {
     [0; 16384]
 }
 
 // Says what ended a run before its script's end.
-pub fn say_stop(err: i32, subcommand: &[u8], name: &[u8], run: Run) {
+fn say_stop(err: i32, subcommand: u8, name: &[u8], run: Run) {
     let stop = run.stop;
     match stop {
         Stop::Malformed => {
-            let mut line = [0u8; 128];
-            let n = put_malformed(&mut line, run.line);
-            complaint::say(err, subcommand, text::first(&line, n));
+            complaint::say_malformed(err, subcommand, run.line);
         }
         Stop::Unread => {
             complaint::say_error(err, subcommand, name);
@@ -36,18 +33,8 @@ pub fn say_stop(err: i32, subcommand: &[u8], name: &[u8], run: Run) {
     }
 }
 
-fn put_malformed(out: &mut [u8], line: u64) -> usize {
-    words::put_form(
-        out,
-        0,
-        b"line %d: expected hex bytes, 'sensor PLACE TEMP FAULTS' or a comment",
-        &[line],
-        b"",
-    )
-}
-
 // The status of a run.
-pub fn status_of(run: Run) -> u8 {
+fn status_of(run: Run) -> u8 {
     let stop = run.stop;
     match stop {
         Stop::Ended => {
@@ -58,6 +45,15 @@ pub fn status_of(run: Run) -> u8 {
         }
         Stop::NoChain => 1,
         _ => 2,
+    }
+}
+
+// Whether a run came to its script's end.
+fn is_ended(run: Run) -> bool {
+    let stop = run.stop;
+    match stop {
+        Stop::Ended => true,
+        _ => false,
     }
 }
 
@@ -80,89 +76,76 @@ fn defaults_of(o: Options) -> Defaults {
     }
 }
 
-// Whether a run came to its script's end.
-pub fn is_ended(run: Run) -> bool {
-    let stop = run.stop;
-    match stop {
-        Stop::Ended => true,
-        _ => false,
-    }
-}
-
-// A run that never began.
-fn never(stop: Stop) -> Run {
-    Run {
-        at: 0,
-        line: 0,
-        used: 0,
-        refused: false,
-        stop,
-    }
-}
-
-// Makes the chain and does the script. What ended it early is said. The page holds what is not written yet.
-pub fn play(
-    subcommand: &[u8],
-    name: &[u8],
-    o: Options,
-    style: Style,
-    mem: &mut [u8],
-    out: &mut [u8],
-    err: i32,
-) -> Run {
+// Makes the chain. Answers the number of its refusal, 0 for none.
+fn make(mem: &mut [u8], o: Options) -> u8 {
     let made = chain::make(mem, o.lamps as usize, defaults_of(o));
-    if let Delivered::Refused(e) = made {
-        complaint::say_refusal(err, subcommand, telegram::refusal_number(e));
-        return never(Stop::NoChain);
+    match made {
+        Delivered::Done(_) => 0,
+        Delivered::Refused(e) => telegram::refusal_number(e),
     }
-    let run = do_named(name, style, mem, out);
-    say_stop(err, subcommand, name, run);
-    run
 }
 
-// Opens a script and does it.
-fn do_named(name: &[u8], style: Style, mem: &mut [u8], out: &mut [u8]) -> Run {
+// Opens a script and does it. The page holds what is not written yet.
+fn play(name: &[u8], style: Style, mem: &mut [u8], out: &mut [u8], book: &[u8]) -> Run {
     let fd = open(name);
     if fd < 0 {
-        return never(Stop::Unread);
+        return script::run_of(Stop::Unread);
     }
-    script::do_file(fd, mem, out, style)
+    script::do_file(fd, mem, out, style, book)
 }
 
-// A lamp of the chain, a line.
-fn put_lamp(out: &mut [u8], at: usize, mem: &[u8], place: usize, json: bool) -> usize {
-    let r = chain::read_lamp(mem, Place(place));
+// A lamp of the chain.
+fn put_lamp(
+    out: &mut [u8],
+    at: usize,
+    book: &[u8],
+    mem: &[u8],
+    look: Look,
+    place: u16,
+    count: u16,
+) -> usize {
+    let r = chain::read_lamp(mem, Place(place as usize));
     let LampRead::Read(l) = r else {
         return at;
     };
-    if json {
-        return lamps::put_object(out, at, place, l);
-    }
-    lamps::put_row(out, at, place, l)
+    lamps::put_lamp(out, at, book, look, place, count, l)
 }
 
-// Prints each lamp of the chain.
-fn print_lamps(out: &mut [u8], mem: &[u8], lamps: usize, json: bool, before: Run) -> Run {
+// Prints each lamp of the chain, behind what is on the page.
+fn print_lamps(
+    out: &mut [u8],
+    book: &[u8],
+    mem: &[u8],
+    look: Look,
+    count: u16,
+    before: Run,
+) -> Run {
     let mut run = before;
-    let mut place = 0;
-    while place < lamps {
+    let mut place: u16 = 0;
+    while place < count {
         run = script::flush_full(out, run);
-        run.at = put_lamp(out, run.at, mem, place, json);
+        run.at = put_lamp(out, run.at, book, mem, look, place, count);
         place += 1;
     }
-    script::flush_page(out, run)
+    run
 }
 
-// The header of the table, with an empty line above it where lines of the script stand there.
-fn put_heading(out: &mut [u8], o: Options) -> usize {
-    if o.json {
-        return 0;
-    }
-    if o.quiet {
-        return lamps::put_header(out, 0);
-    }
-    let a = text::put(out, 0, b"\n");
-    lamps::put_header(out, a)
+// Prints the chain after a script, behind an empty line where lines of the script stand above it.
+fn print_chain(
+    out: &mut [u8],
+    book: &[u8],
+    mem: &[u8],
+    look: Look,
+    empty: &[u8],
+    count: u16,
+    run: Run,
+) -> Run {
+    let mut begun = run;
+    let a = text::put(out, 0, empty);
+    begun.at = lamps::put_start(out, a, book, look, count);
+    let mut printed = print_lamps(out, book, mem, look, count, begun);
+    printed.at = lamps::put_end(out, printed.at, book, look, count);
+    script::flush_page(out, printed)
 }
 
 fn style_of(o: Options) -> Style {
@@ -175,36 +158,71 @@ fn style_of(o: Options) -> Style {
     Style::Text
 }
 
+fn look_of(o: Options) -> Look {
+    if o.json {
+        return Look::Objects;
+    }
+    Look::Table
+}
+
+// How many characters stand above the table: the line feed of an empty line, or none.
+fn above(style: Style) -> usize {
+    match style {
+        Style::Text => 1,
+        _ => 0,
+    }
+}
+
 // The script, then the chain.
-fn print(line: &[u8], o: Options, err: i32) -> u8 {
+fn show(name: &[u8], o: Options, subcommand: u8, style: Style, look: Look, err: i32) -> Run {
     let mut mem = chain_memory();
     let mut page = io::large_buffer();
-    let name = text::part(line, o.from, o.to);
-    let played = play(b"replay", name, o, style_of(o), &mut mem, &mut page, err);
+    let book = words::book();
+    let number = make(&mut mem, o);
+    if number != 0 {
+        complaint::say_refusal(err, subcommand, number);
+        return script::run_of(Stop::NoChain);
+    }
+    let played = play(name, style, &mut mem, &mut page, &book);
     if !is_ended(played) {
-        return status_of(played);
+        return played;
     }
-    let mut run = played;
-    run.at = put_heading(&mut page, o);
-    let printed = print_lamps(&mut page, &mem, o.lamps as usize, o.json, run);
-    say_stop(err, b"replay", name, printed);
-    status_of(printed)
+    let count = (o.lamps % 65536) as u16;
+    print_chain(
+        &mut page,
+        &book,
+        &mem,
+        look,
+        text::first(b"\n", above(style)),
+        count,
+        played,
+    )
 }
 
-// The subcommand, on the words behind its name. Answers its status.
+// The subcommand replay, on the words behind its name. Answers its status.
 pub fn replay_file(line: &[u8], err: i32) -> u8 {
-    let o = arguments::options_of(line);
-    if o.wrong != 0 {
-        return say_use(err, b"replay", o.wrong);
+    let o = options::options_of(line);
+    if o.wrong != complaint::NOTHING {
+        return complaint::say_use(err, complaint::REPLAY, o.wrong);
     }
-    print(line, o, err)
+    let name = text::part(line, o.from, o.to);
+    let run = show(name, o, complaint::REPLAY, style_of(o), look_of(o), err);
+    say_stop(err, complaint::REPLAY, name, run);
+    status_of(run)
 }
 
-// Says what was expected of the arguments.
-pub fn say_use(err: i32, subcommand: &[u8], wrong: u8) -> u8 {
-    let mut line = [0u8; 128];
-    let a = arguments::put_wrong(&mut line, 0, wrong);
-    let b = text::put(&mut line, a, b"; see osp help ");
-    let c = text::put(&mut line, b, subcommand);
-    complaint::say(err, subcommand, text::first(&line, c))
+// The subcommand board. Of refused lines a picture shows nothing, so that they are told.
+pub fn draw(line: &[u8], err: i32) -> u8 {
+    let o = options::options_of(line);
+    let wrong = options::wrong_for_board(o);
+    if wrong != complaint::NOTHING {
+        return complaint::say_use(err, complaint::BOARD, wrong);
+    }
+    let name = text::part(line, o.from, o.to);
+    let run = show(name, o, complaint::BOARD, Style::Silent, Look::Picture, err);
+    say_stop(err, complaint::BOARD, name, run);
+    if bits::and(is_ended(run), run.refused) {
+        complaint::say(err, complaint::BOARD, complaint::LINE_REFUSED);
+    }
+    status_of(run)
 }

@@ -68,18 +68,6 @@ pub fn put_times(out: &mut [u8], at: usize, b: u8, n: usize) -> usize {
     a
 }
 
-// Appends a word in the middle of a column.
-pub fn put_centred(out: &mut [u8], at: usize, word: &[u8], width: usize) -> usize {
-    let n = word.len();
-    if width < n {
-        return put(out, at, word);
-    }
-    let left = (width - n) / 2;
-    let a = put_times(out, at, b' ', left);
-    let b = put(out, a, word);
-    put_times(out, b, b' ', width - n - left)
-}
-
 // Appends spaces up to a column, of which the line began at `start`; at most 64.
 pub fn put_spaces(out: &mut [u8], at: usize, start: usize, column: usize) -> usize {
     let spaces = b"                                                                ";
@@ -101,29 +89,21 @@ pub fn put_hex(out: &mut [u8], at: usize, b: u8) -> usize {
     put(out, at, &[digit(b / 16), digit(b)])
 }
 
-// Appends a word of two bytes in hex.
-pub fn put_word(out: &mut [u8], at: usize, w: u16) -> usize {
-    let high = bits::high(w);
-    let low = bits::low(w);
-    put(
-        out,
-        at,
-        &[digit(high / 16), digit(high), digit(low / 16), digit(low)],
-    )
-}
-
-// Appends an address: three hex digits.
-pub fn put_address(out: &mut [u8], at: usize, a: u16) -> usize {
-    let low = bits::low(a);
-    put(
-        out,
-        at,
-        &[digit(bits::high(a)), digit(low / 16), digit(low)],
-    )
+// The four hex digits of a word, with a space before them.
+pub fn hex_five(n: u16) -> [u8; 5] {
+    let high = bits::high(n);
+    let low = bits::low(n);
+    [
+        b' ',
+        digit(high / 16),
+        digit(high),
+        digit(low / 16),
+        digit(low),
+    ]
 }
 
 // How many of five places a number leaves empty.
-fn empty_places(n: u16) -> usize {
+pub fn empty_places(n: u16) -> usize {
     match n {
         0..=9 => 4,
         10..=99 => 3,
@@ -200,33 +180,64 @@ fn put_next(out: &mut [u8], at: usize, b: u8) -> usize {
     at + 3
 }
 
+// A row up to the bar that ends it.
+pub fn ended(row: &[u8]) -> &[u8] {
+    first(row, bytes::scan::find(row, 0, row.len(), b'|'))
+}
+
+// Which line of a list is a word, from 0 on; the number of its lines where none is. Each line has its line feed.
+pub fn line_in(list: &[u8], word: &[u8]) -> usize {
+    let n = list.len();
+    let mut at = 0;
+    let mut k = 0;
+    while at < n {
+        let end = bytes::scan::find(list, at, n, b'\n');
+        if check::same(&list[at..end], word) {
+            return k;
+        }
+        k = std::num::wrapping_add_usize(k, 1);
+        at = end + 1;
+    }
+    k
+}
+
 // Line k of a text, from 0 on; the last one where there are not so many.
 pub fn line_of(text: &[u8], k: usize) -> &[u8] {
+    piece_of(text, k, b'\n')
+}
+
+// Page k of a text whose pages are separated by bars.
+pub fn page_of(text: &[u8], k: usize) -> &[u8] {
+    piece_of(text, k, b'|')
+}
+
+// Piece k of a text whose pieces are separated by a character.
+fn piece_of(text: &[u8], k: usize, between: u8) -> &[u8] {
     let mut at = 0;
     let mut i = 0;
     while i < k {
-        at = after_line(text, at);
+        at = after_piece(text, at, between);
         i += 1;
     }
-    line_at(text, at)
+    piece_at(text, at, between)
 }
 
-// Where the line behind the one at an index starts.
-fn after_line(text: &[u8], at: usize) -> usize {
+// Where the piece behind the one at an index starts.
+fn after_piece(text: &[u8], at: usize, between: u8) -> usize {
     let n = text.len();
     if n < at {
         return n;
     }
-    let end = bytes::scan::find(text, at, n, b'\n');
+    let end = bytes::scan::find(text, at, n, between);
     if end < n { end + 1 } else { at }
 }
 
-fn line_at(text: &[u8], at: usize) -> &[u8] {
+fn piece_at(text: &[u8], at: usize, between: u8) -> &[u8] {
     let n = text.len();
     if n < at {
         return &text[n..];
     }
-    let end = bytes::scan::find(text, at, n, b'\n');
+    let end = bytes::scan::find(text, at, n, between);
     &text[at..end]
 }
 

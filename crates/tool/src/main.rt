@@ -64,11 +64,7 @@ fn run_arguments(space: &[u8], given: Line) {
 
 fn run_first(line: &[u8], fits: bool) -> u8 {
     if !fits {
-        return complaint::say(
-            STDERR_FILENO,
-            b"arguments",
-            b"expected at most 4,095 bytes of them",
-        );
+        return complaint::say(STDERR_FILENO, complaint::ARGUMENTS, complaint::TOO_LONG);
     }
     if check::same(line, b"script\0") {
         return run_script();
@@ -80,48 +76,28 @@ fn run_first(line: &[u8], fits: bool) -> u8 {
 fn run_line(line: &[u8], err: i32) -> u8 {
     let word = first_word(line);
     let rest = after_word(line);
-    if check::same(word, b"fields") {
-        return fields::show_fields(rest, err);
+    let k = text::line_in(b"fields\nbuild\nreplay\nboard\n", word);
+    match k {
+        0 => fields::show_fields(rest, err),
+        1 => ask::build::build(rest, err),
+        2 => replay::replay_file(rest, err),
+        3 => replay::draw(rest, err),
+        _ => run_other(word, rest, err),
     }
-    if check::same(word, b"build") {
-        return ask::build::build(rest, err);
-    }
-    if check::same(word, b"replay") {
-        return replay::replay_file(rest, err);
-    }
-    if check::same(word, b"board") {
-        return board::draw(rest, err);
-    }
-    run_other(word, rest, err)
-}
-
-fn is_help(word: &[u8]) -> bool {
-    bits::or(
-        check::same(word, b"help"),
-        bits::or(check::same(word, b"--help"), check::same(word, b"-h")),
-    )
 }
 
 // The subcommands that take one word at most.
 fn run_other(word: &[u8], rest: &[u8], err: i32) -> u8 {
     if after_word(rest).len() != 0 {
-        return complaint::say_word(
-            err,
-            b"help",
-            word,
-            b"is no subcommand, or takes one word at most; see osp help",
-        );
+        return complaint::say_word(err, complaint::HELP, complaint::ONE_WORD, word);
     }
-    if check::same(word, b"info") {
-        return ask::info::info(first_word(rest), err);
+    let k = text::line_in(b"info\nhelp\n--help\n-h\n\n", word);
+    match k {
+        0 => ask::info::info(first_word(rest), err),
+        1..=3 => ask::help(first_word(rest), err),
+        4 => complaint::say(err, complaint::HELP, complaint::SUBCOMMAND_EXPECTED),
+        _ => complaint::say_word(err, complaint::HELP, complaint::NO_SUBCOMMAND, word),
     }
-    if is_help(word) {
-        return ask::help(first_word(rest), err);
-    }
-    if word.len() == 0 {
-        return complaint::say(err, b"help", b"expected a subcommand; see osp help");
-    }
-    complaint::say_word(err, b"help", word, b"is no subcommand; see osp help")
 }
 
 // A space, which separates the words of a line, as the byte 0 between arguments.

@@ -1,28 +1,50 @@
 // What the tool calls things: commands, casts, refusals, states and flags, and a dissected telegram in words. docs/TOOL.md has the
 // forms. A function named `put_..` appends to a lent buffer of which `at` bytes are used, and answers how many are used then.
 mod names;
+mod texts;
 
-use answer::Answer;
-use answer::Answered;
-use command::Command;
-use command::Dissected;
-use command::Pwm;
 pub use names::Named;
 pub use names::command_named;
-pub use names::put_code;
+pub use names::name_size;
 pub use names::row_of;
 use table::Cast;
+use table::Destination;
+use telegram::Address;
+use telegram::Read;
+pub use texts::book;
 
-// The value at an index, 0 where there is none.
-fn value_at(values: &[u64], i: usize) -> u64 {
-    if i < values.len() { values[i] } else { 0 }
+// A command or an answer by its numbers: the address that it goes to or comes from, the command, and the payload's bytes.
+pub struct Message {
+    pub address: u16,
+    pub number: u8,
+    pub payload: [u8; 8],
+    pub size: usize,
 }
 
-// How far a form was put: bytes used of the buffer, values used, and where the form goes on.
+// What is to be put: a row of a table of forms, and the values that its letters take, in their order.
+pub struct Told {
+    pub row: u8,
+    pub values: [u64; 8],
+}
+
+// How far a form was put: bytes used of the buffer, and where the form goes on.
 struct Progress {
     at: usize,
-    next: usize,
     index: usize,
+}
+
+// The value at an index, 0 where there is none.
+fn value_at(values: [u64; 8], i: usize) -> u64 {
+    if i < 8 { values[i] } else { 0 }
+}
+
+// Where a form of so many bytes goes on behind a letter; %; and its last byte end it.
+fn index_after(letter: u8, size: usize, index: usize, run: usize) -> usize {
+    match letter {
+        b';' => size,
+        0 => size,
+        _ => std::num::wrapping_add_usize(index, std::num::wrapping_add_usize(run, 2)),
+    }
 }
 
 // Appends the characters of a form up to the next letter, and what the letter stands for.
@@ -31,50 +53,67 @@ fn put_run(
     start: usize,
     form: &[u8],
     p: Progress,
-    values: &[u64],
+    value: u64,
     s: &[u8],
+    book: &[u8],
 ) -> Progress {
     let rest = text::from(form, p.index);
     let run = bytes::scan::find(rest, 0, rest.len(), b'%');
-    let a = text::put(out, p.at, text::first(rest, run));
-    if run == rest.len() {
-        return Progress {
-            at: a,
-            next: p.next,
-            index: form.len(),
-        };
-    }
     let letter = text::byte_at(rest, std::num::wrapping_add_usize(run, 1));
+    let a = text::put(out, p.at, text::first(rest, run));
     Progress {
-        at: put_code(out, a, start, letter, value_at(values, p.next), s),
-        next: std::num::wrapping_add_usize(p.next, 1),
-        index: std::num::wrapping_add_usize(p.index, std::num::wrapping_add_usize(run, 2)),
+        at: names::put_code(out, a, book, start, letter, value, s),
+        index: index_after(letter, form.len(), p.index, run),
     }
 }
 
-// Appends a form: its characters as they stand, but % and the letter behind it as the next value; `put_code` has the letters. Bytes
-// to be shown are in `s`.
-pub fn put_form(out: &mut [u8], at: usize, form: &[u8], values: &[u64], s: &[u8]) -> usize {
-    let mut p = Progress {
-        at,
-        next: 0,
-        index: 0,
-    };
+// Appends a form: its characters as they stand, but % and the letter behind it as the next value; `names::put_code` has the letters.
+// Bytes to be shown are in `s`, names in the book.
+pub fn put_form(
+    out: &mut [u8],
+    at: usize,
+    book: &[u8],
+    form: &[u8],
+    values: [u64; 8],
+    s: &[u8],
+) -> usize {
+    let mut p = Progress { at, index: 0 };
+    let mut next = 0;
     let mut left = form.len();
     while left > 0 {
-        p = put_run(out, at, form, p, values, s);
+        p = put_run(out, at, form, p, value_at(values, next), s, book);
         if form.len() <= p.index {
             return p.at;
         }
+        next = std::num::wrapping_add_usize(next, 1);
         left -= 1;
     }
     p.at
 }
 
-// Appends "refused 5: checksum differs".
-pub fn put_refusal(out: &mut [u8], at: usize, number: u8) -> usize {
-    let n = number as u64;
-    put_form(out, at, b"refused %d: %r", &[n, n], b"")
+// Appends a row of a table of forms. The rows have 64 bytes each; %; ends a form.
+pub fn put_row(
+    out: &mut [u8],
+    at: usize,
+    book: &[u8],
+    forms: &[u8],
+    told: Told,
+    s: &[u8],
+) -> usize {
+    let values = told.values;
+    put_form(
+        out,
+        at,
+        book,
+        text::from(forms, told.row as usize * 64),
+        values,
+        s,
+    )
+}
+
+// Appends a form of the book.
+pub fn put_told(out: &mut [u8], at: usize, book: &[u8], told: Told, s: &[u8]) -> usize {
+    put_row(out, at, book, book, told, s)
 }
 
 // Whether a command is an init.
@@ -85,124 +124,145 @@ fn is_init(number: u8) -> bool {
     }
 }
 
-// Appends a command's name and the lamp that it goes to, the most frequent cast.
-fn put_lamp(out: &mut [u8], at: usize, number: u8, address: u16) -> usize {
-    let a = names::put_name(out, at, number);
-    let b = text::put(out, a, b" to lamp ");
-    text::put_address(out, b, address)
-}
-
-// Appends a command's name and to whom it goes.
-fn put_cast(out: &mut [u8], at: usize, number: u8, cast: Cast) -> usize {
+// A command's name and to whom it goes.
+fn cast_told(number: u8, cast: Cast) -> Told {
     let n = number as u64;
     match cast {
-        Cast::Everyone => {
-            if is_init(number) {
-                return put_form(out, at, b"%c at 000", &[n], b"");
-            }
-            put_form(out, at, b"%c to everyone", &[n], b"")
-        }
-        Cast::One(address) => {
-            if is_init(number) {
-                return put_form(out, at, b"%c from %a", &[n, address.0 as u64], b"");
-            }
-            put_lamp(out, at, number, address.0)
-        }
-        Cast::Group(group) => put_form(out, at, b"%c to group %d", &[n, group as u64], b""),
+        Cast::Everyone => Told {
+            row: if is_init(number) { 1 } else { 0 },
+            values: [n, 0, 0, 0, 0, 0, 0, 0],
+        },
+        Cast::One(a) => Told {
+            row: if is_init(number) { 3 } else { 2 },
+            values: [n, a.0 as u64, 0, 0, 0, 0, 0, 0],
+        },
+        Cast::Group(g) => Told {
+            row: 4,
+            values: [n, g as u64, 0, 0, 0, 0, 0, 0],
+        },
+    }
+}
+
+// The duty of a PWM word, whose top bit is the mode.
+fn duty(high: u8, low: u8) -> u64 {
+    bits::word(high % 128, low) as u64
+}
+
+// A row without values.
+pub fn bare(row: u8) -> Told {
+    Told {
+        row,
+        values: [0; 8],
+    }
+}
+
+// A row with up to four values, the last of them thrice.
+pub fn values_told(row: u8, a: u64, b: u64, c: u64, d: u64) -> Told {
+    Told {
+        row,
+        values: [a, b, c, d, d, d, 0, 0],
     }
 }
 
 // Appends a PWM word behind its colour and mode. Replays print these most: without a form they are faster.
-fn put_pwm(out: &mut [u8], at: usize, day: &[u8], night: &[u8], pwm: Pwm) -> usize {
-    if pwm.day {
-        let a = text::put(out, at, day);
-        return text::put_decimal(out, a, pwm.duty as u64);
+fn put_pwm(out: &mut [u8], at: usize, day: &[u8], night: &[u8], high: u8, low: u8) -> usize {
+    if high < 128 {
+        let a = text::put(out, at, night);
+        return text::put_decimal(out, a, duty(high, low));
     }
-    let a = text::put(out, at, night);
-    text::put_decimal(out, a, pwm.duty as u64)
+    let a = text::put(out, at, day);
+    text::put_decimal(out, a, duty(high, low))
 }
 
-// Appends the three PWM words.
-fn put_colours(out: &mut [u8], at: usize, red: Pwm, green: Pwm, blue: Pwm) -> usize {
-    let a = put_pwm(out, at, b": red day ", b": red night ", red);
-    let b = put_pwm(out, a, b", green day ", b", green night ", green);
-    put_pwm(out, b, b", blue day ", b", blue night ", blue)
+// Appends three PWM words, red, green and blue.
+fn put_colours(out: &mut [u8], at: usize, b: [u8; 8]) -> usize {
+    let a = put_pwm(out, at, b": red day ", b": red night ", b[0], b[1]);
+    let c = put_pwm(out, a, b", green day ", b", green night ", b[2], b[3]);
+    put_pwm(out, c, b", blue day ", b", blue night ", b[4], b[5])
 }
 
-// Appends bytes in hex behind a word.
-fn put_thresholds(out: &mut [u8], at: usize, cycle: u8, low: u8, high: u8) -> usize {
-    put_form(out, at, b": thresholds%X", &[], &[cycle, low, high])
-}
-
-// Appends one value behind its name.
-fn put_one(out: &mut [u8], at: usize, form: &[u8], value: u64) -> usize {
-    put_form(out, at, form, &[value], b"")
-}
-
-// Appends temperature and status.
-fn put_report(out: &mut [u8], at: usize, temperature: u8, status: u8) -> usize {
-    let s = status as u64;
-    put_form(
-        out,
-        at,
-        b": temperature %b, status %b (%s, %m, %n)",
-        &[temperature as u64, s, s, s, s],
-        b"",
-    )
-}
-
-fn put_status(out: &mut [u8], at: usize, status: u8) -> usize {
-    let s = status as u64;
-    put_form(out, at, b": status %b (%s, %m, %n)", &[s, s, s, s], b"")
-}
-
-// Appends the values that a command carries.
-fn put_values(out: &mut [u8], at: usize, command: Command) -> usize {
-    match command {
-        Command::SetMult(mask) => put_one(out, at, b": mask %w", mask as u64),
-        Command::SetThresholds(cycle, low, high) => put_thresholds(out, at, cycle, low, high),
-        Command::SetSetup(setup) => put_one(out, at, b": setup %b", setup as u64),
-        Command::SetPwm(red, green, blue) => put_colours(out, at, red, green, blue),
-        _ => at,
+// What the bytes of a payload say, of a command or of an answer, by its number.
+fn payload_told(number: u8, b: [u8; 8]) -> Told {
+    let first = b[0] as u64;
+    let second = b[1] as u64;
+    let word = bits::word(b[0], b[1]) as u64;
+    match number {
+        0x0C..=0x0D => values_told(5, word, 0, 0, 0),
+        0x4A..=0x4B => values_told(6, first, second, b[2] as u64, 0),
+        0x4C..=0x4D => values_told(7, first, 0, 0, 0),
+        0x07 => values_told(9, word, bits::word(b[2], b[3]) as u64, 0, 0),
+        0x40 => values_told(10, first, first, first, first),
+        0x48 => values_told(11, first, 0, 0, 0),
+        // 02, 03 and 42, the other answers
+        _ => values_told(8, first, second, second, second),
     }
+}
+
+// Appends what a payload says; nothing where it has no bytes.
+fn put_payload(out: &mut [u8], at: usize, book: &[u8], m: Message) -> usize {
+    let payload = m.payload;
+    let size = m.size;
+    match size {
+        0 => at,
+        6 => put_colours(out, at, payload),
+        _ => put_told(out, at, book, payload_told(m.number, payload), b""),
+    }
+}
+
+// The numbers in the first bytes of a telegram that a dissector accepted.
+pub fn message_of(b: [u8; 16], count: usize) -> Message {
+    let r = telegram::read_frame(text::first(&b, count));
+    let Read::Accepted(t) = r else {
+        return Message {
+            address: 0,
+            number: 0,
+            payload: [0; 8],
+            size: 0,
+        };
+    };
+    let address = t.address;
+    Message {
+        address: address.0,
+        number: t.command,
+        payload: [b[3], b[4], b[5], b[6], b[7], b[8], b[9], b[10]],
+        size: t.size,
+    }
+}
+
+// To whom a command goes.
+pub fn cast_of(m: Message) -> Cast {
+    let d = table::destination_of(Address(m.address));
+    let Destination::To(cast) = d else {
+        return Cast::Everyone;
+    };
+    cast
+}
+
+// Appends a command's name and the lamp that it goes to, the most frequent cast.
+fn put_lamp(out: &mut [u8], at: usize, book: &[u8], m: Message) -> usize {
+    let a = names::put_name(out, at, book, row_of(m.number));
+    let b = text::put(out, a, b" to lamp ");
+    names::put_digits(out, b, b'a', m.address as u64)
+}
+
+// Appends a command's name and to whom it goes.
+fn put_cast(out: &mut [u8], at: usize, book: &[u8], m: Message) -> usize {
+    let told = cast_told(m.number, cast_of(m));
+    if told.row == 2 {
+        return put_lamp(out, at, book, m);
+    }
+    put_told(out, at, book, told, b"")
 }
 
 // Appends a command in words.
-pub fn put_command(out: &mut [u8], at: usize, sent: Dissected) -> usize {
-    let command = sent.command;
-    let cast = sent.cast;
-    let parts = command::command_parts(command);
-    let a = put_cast(out, at, parts.number, cast);
-    put_values(out, a, command)
-}
-
-// Appends the values that an answer carries.
-fn put_answer_values(out: &mut [u8], at: usize, answer: Answer) -> usize {
-    match answer {
-        Answer::InitBidir(temperature, status) => put_report(out, at, temperature, status),
-        Answer::InitLoop(temperature, status) => put_report(out, at, temperature, status),
-        Answer::Identity(identity) => put_one(out, at, b": identity %l", identity as u64),
-        Answer::Mask(mask) => put_one(out, at, b": mask %w", mask as u64),
-        Answer::Status(status) => put_status(out, at, status),
-        Answer::TempStatus(temperature, status) => put_report(out, at, temperature, status),
-        Answer::Temp(temperature) => put_one(out, at, b": temperature %b", temperature as u64),
-        Answer::Thresholds(cycle, low, high) => put_thresholds(out, at, cycle, low, high),
-        Answer::Setup(setup) => put_one(out, at, b": setup %b", setup as u64),
-        Answer::Words(red, green, blue) => put_colours(out, at, red, green, blue),
-    }
+pub fn put_command(out: &mut [u8], at: usize, book: &[u8], m: Message) -> usize {
+    let a = put_cast(out, at, book, m);
+    put_payload(out, a, book, m)
 }
 
 // Appends an answer in words.
-pub fn put_answer(out: &mut [u8], at: usize, answered: Answered) -> usize {
-    let answer = answered.answer;
-    let address = answered.address;
-    let parts = answer::answer_parts(answer);
-    let a = put_form(
-        out,
-        at,
-        b"%a answers %c",
-        &[address.0 as u64, parts.number as u64],
-        b"",
-    );
-    put_answer_values(out, a, answer)
+pub fn put_answer(out: &mut [u8], at: usize, book: &[u8], m: Message) -> usize {
+    let told = values_told(12, m.address as u64, m.number as u64, 0, 0);
+    let a = put_told(out, at, book, told, b"");
+    put_payload(out, a, book, m)
 }

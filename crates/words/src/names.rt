@@ -7,6 +7,12 @@ pub enum Named {
     Nothing,
 }
 
+// A name as a value.
+struct Name {
+    text: [u8; 16],
+    size: usize,
+}
+
 // The row of a command number in a table of commands; the last one for a number that is unknown.
 pub fn row_of(number: u8) -> u8 {
     match number {
@@ -26,37 +32,39 @@ pub fn row_of(number: u8) -> u8 {
     }
 }
 
-// The name that starts at an index of a table, up to the space behind it.
-fn row_name(rows: &[u8], at: usize) -> &[u8] {
-    let name = text::from(rows, at);
-    text::first(name, bytes::scan::find(name, 0, name.len(), b' '))
+// Appends name k of the book: commands from 0 on, states from 20, directions from 24, modes from 26, words for nothing from 28, from 32 on
+// four forms of each flag, as text and behind another, as JSON and behind another.
+pub fn put_name(out: &mut [u8], at: usize, book: &[u8], k: u8) -> usize {
+    let start = 1920 + k as usize * 16;
+    put(out, at, text::ended(text::from(book, start)))
 }
 
-// Appends the name of a command.
-pub fn put_name(out: &mut [u8], at: usize, number: u8) -> usize {
-    put(
-        out,
-        at,
-        row_name(
-            b"reset       clrerror    initbidir   initloop    gosleep     goactive    godeepsleep identify    readmult    setmult     readstatus  readtempst  readtemp    readotth    setotth     readsetup   setsetup    readpwm     setpwm      unknown     ",
-            row_of(number) as usize * 12,
-        ),
-    )
+// The name of a command.
+fn spelled(book: &[u8], number: u8) -> Name {
+    let mut name = [0u8; 16];
+    let size = put_name(&mut name, 0, book, row_of(number));
+    Name { text: name, size }
+}
+
+// How many characters the name of a command has.
+pub fn name_size(book: &[u8], number: u8) -> usize {
+    let name = spelled(book, number);
+    name.size
 }
 
 // Whether a word is the name of a command.
-fn is_name(word: &[u8], number: u8) -> bool {
-    let mut name = [0u8; 12];
-    let n = put_name(&mut name, 0, number);
-    check::same(word, text::first(&name, n))
+fn is_name(book: &[u8], word: &[u8], number: u8) -> bool {
+    let name = spelled(book, number);
+    let letters = name.text;
+    check::same(word, text::first(&letters, name.size))
 }
 
 // The command that a name says.
-pub fn command_named(word: &[u8]) -> Named {
+pub fn command_named(book: &[u8], word: &[u8]) -> Named {
     let mut number: u8 = 0;
     while number < 0x50 {
         if row_of(number) < 19 {
-            if is_name(word, number) {
+            if is_name(book, word, number) {
                 return Named::Command(number);
             }
         }
@@ -91,101 +99,111 @@ no lamp at that place
     )
 }
 
-// Appends the state of a status byte.
-fn put_state(out: &mut [u8], at: usize, status: u8) -> usize {
-    put(
-        out,
-        at,
-        row_name(
-            b"UNINITIALIZED SLEEP         ACTIVE        DEEPSLEEP     ",
-            (status / 64) as usize * 14,
-        ),
-    )
+// The name that a letter asks for: c a command, s and S the state of a status byte, m and M its direction, o and O a mode.
+fn name_for(letter: u8, n: u8) -> u8 {
+    match letter {
+        b'c' => row_of(n),
+        b's' | b'S' => 20 + n / 64,
+        b'm' | b'M' => 24 + n / 16 % 2,
+        _ => {
+            if n == 0 {
+                return 26;
+            }
+            27
+        }
+    }
 }
 
-// Appends the direction of a status byte.
-fn put_direction(out: &mut [u8], at: usize, status: u8) -> usize {
-    if status / 16 % 2 == 0 {
-        return put(out, at, b"bidir");
+// The width of the column that a name stands in; 0 where it stands in none.
+fn width_for(letter: u8) -> usize {
+    match letter {
+        b'S' => 14,
+        b'M' | b'O' => 6,
+        _ => 0,
     }
-    put(out, at, b"loop")
 }
 
-fn put_mode(out: &mut [u8], at: usize, mode: u8) -> usize {
-    if mode == 0 {
-        return put(out, at, b"night");
-    }
-    put(out, at, b"day")
+// Appends a name, in a column where its letter is a capital.
+fn put_named(out: &mut [u8], at: usize, book: &[u8], letter: u8, n: u64) -> usize {
+    let a = put_name(out, at, book, name_for(letter, (n % 256) as u8));
+    text::put_spaces(out, a, at, width_for(letter))
 }
 
-// Appends one of a list of names, with what separates it from those since `start`.
-fn put_listed(out: &mut [u8], at: usize, start: usize, between: &[u8], name: &[u8]) -> usize {
-    if at == start {
-        return put(out, at, name);
-    }
-    let a = put(out, at, between);
-    put(out, a, name)
-}
-
-// Appends the flag at a bit of a status byte, if it is set; bit 4 is no flag.
-fn put_flag(out: &mut [u8], at: usize, start: usize, status: u8, bit: u8, json: bool) -> usize {
-    if bit == 4 {
-        return at;
-    }
-    if status >> (bit % 8) & 1 == 0 {
-        return at;
-    }
-    let row = bit as usize * 9;
+// Which of the four forms of a flag.
+fn form_of(behind: bool, json: bool) -> u8 {
     if json {
-        let names = b"\"UV\"     \"OT\"     \"LOS\"    \"CE\"     -        \"OTPCRC\" ";
-        return put_listed(out, at, start, b",", row_name(names, row));
+        return if behind { 3 } else { 2 };
     }
-    let names = b"UV       OT       LOS      CE       -        OTPCRC   ";
-    put_listed(out, at, start, b" ", row_name(names, row))
+    if behind { 1 } else { 0 }
+}
+
+// Whether a bit of a status byte is a flag that is set; bit 4 is no flag.
+fn is_flag(status: u8, bit: u8) -> bool {
+    bits::and(bit != 4, status >> (bit % 8) & 1 == 1)
+}
+
+// Appends the flag at a bit of a status byte, if it is set.
+fn put_flag(
+    out: &mut [u8],
+    at: usize,
+    book: &[u8],
+    start: usize,
+    status: u8,
+    bit: u8,
+    json: bool,
+) -> usize {
+    if is_flag(status, bit) {
+        return put_name(
+            out,
+            at,
+            book,
+            32 + bit % 8 * 4 + form_of(at != start, json) % 4,
+        );
+    }
+    at
 }
 
 // Appends the flags of a status byte, in its order.
-fn put_flags(out: &mut [u8], at: usize, status: u8, json: bool) -> usize {
+fn put_flags(out: &mut [u8], at: usize, book: &[u8], status: u8, json: bool) -> usize {
     let mut a = at;
     let mut left: u8 = 6;
     while left > 0 {
         left -= 1;
-        a = put_flag(out, a, at, status, left, json);
+        a = put_flag(out, a, book, at, status, left, json);
     }
     a
 }
 
-// Appends the flags, or a word where none is set.
-fn put_flags_or(out: &mut [u8], at: usize, status: u8, none: &[u8]) -> usize {
-    let a = put_flags(out, at, status, false);
-    if a == at {
-        return put(out, at, none);
+// The number of a group behind what separates it, right in three characters.
+fn group_digits(bit: u8, between: u8) -> [u8; 3] {
+    if bit < 10 {
+        return [b' ', between, b'0' + bit];
     }
-    a
+    [between, b'1', b'0' + bit % 10]
+}
+
+// How many of the three are not shown.
+fn group_hidden(bit: u8, behind: bool) -> usize {
+    if bit < 10 {
+        return if behind { 1 } else { 2 };
+    }
+    if behind { 0 } else { 1 }
 }
 
 // Appends the number of a bit, if it is set.
-fn put_group(
-    out: &mut [u8],
-    at: usize,
-    start: usize,
-    set: bool,
-    bit: u64,
-    between: &[u8],
-) -> usize {
+fn put_group(out: &mut [u8], at: usize, start: usize, set: bool, bit: u8, between: u8) -> usize {
     if !set {
         return at;
     }
-    let mut digits = [0u8; 20];
-    let k = io::decimal(bit, &mut digits);
-    put_listed(out, at, start, between, &digits[..k])
+    let digits = group_digits(bit, between);
+    put(out, at, text::from(&digits, group_hidden(bit, at != start)))
 }
 
 // Appends the numbers of the bits that are set in a group word.
-fn put_groups(out: &mut [u8], at: usize, groups: u16, between: &[u8]) -> usize {
+fn put_groups(out: &mut [u8], at: usize, groups: u16, between: u8) -> usize {
     let mut a = at;
     let mut rest = groups;
-    let mut bit: u64 = 0;
+    let mut bit: u8 = 0;
     while bit < 16 {
         a = put_group(out, a, at, rest % 2 == 1, bit, between);
         rest = rest / 2;
@@ -194,64 +212,84 @@ fn put_groups(out: &mut [u8], at: usize, groups: u16, between: &[u8]) -> usize {
     a
 }
 
-fn put_groups_or(out: &mut [u8], at: usize, groups: u16, none: &[u8]) -> usize {
-    let a = put_groups(out, at, groups, b" ");
-    if a == at {
-        return put(out, at, none);
+// Appends the flags of a status byte or the groups of a word.
+fn put_items(out: &mut [u8], at: usize, book: &[u8], letter: u8, n: u64) -> usize {
+    match letter {
+        b'g' => put_groups(out, at, (n % 65536) as u16, b' '),
+        b'G' => put_groups(out, at, (n % 65536) as u16, b','),
+        _ => put_flags(out, at, book, (n % 256) as u8, letter == b'F'),
     }
-    a
 }
 
-// Appends a number in a column of five.
-fn put_five(out: &mut [u8], at: usize, n: u16) -> usize {
-    put(out, at, &text::five(n))
+// The name that stands where there is no flag or no group: "no flags", "none", or in JSON nothing.
+fn none_for(letter: u8) -> u8 {
+    match letter {
+        b'n' => 29,
+        b'f' | b'g' => 28,
+        _ => 30,
+    }
 }
 
-fn put_long(out: &mut [u8], at: usize, n: u64) -> usize {
-    let a = text::put_word(out, at, (n / 65536 % 65536) as u16);
-    text::put_word(out, a, (n % 65536) as u16)
+fn put_list(out: &mut [u8], at: usize, book: &[u8], letter: u8, n: u64) -> usize {
+    let a = put_items(out, at, book, letter, n);
+    if a != at {
+        return a;
+    }
+    put_name(out, at, book, none_for(letter))
 }
 
-// Appends a number, as a letter says: d decimal, 5 in a column of five, h a hex digit, b a byte, a an address, w a word, l a long one.
-fn put_number(out: &mut [u8], at: usize, letter: u8, n: u64) -> usize {
-    let word = (n % 65536) as u16;
+// The digits of a number in five characters: 5 decimal, any other letter hex.
+fn digits_for(letter: u8, n: u16) -> [u8; 5] {
+    if letter == b'5' {
+        return text::five(n);
+    }
+    text::hex_five(n)
+}
+
+// How many of the five are not shown: 5 is a column, w a word, a an address, b a byte, h a hex digit.
+fn hidden_for(letter: u8) -> usize {
+    match letter {
+        b'5' => 0,
+        b'w' => 1,
+        b'a' => 2,
+        b'b' => 3,
+        _ => 4,
+    }
+}
+
+pub fn put_digits(out: &mut [u8], at: usize, letter: u8, n: u64) -> usize {
+    let digits = digits_for(letter, (n % 65536) as u16);
+    put(out, at, text::from(&digits, hidden_for(letter)))
+}
+
+// The character that a letter repeats.
+fn repeated(letter: u8) -> u8 {
+    if letter == b'_' { b' ' } else { b'^' }
+}
+
+// Appends what a letter in a form stands for. d is a number in decimal; for digits, names and lists see above; r is a refusal's reason;
+// x and X are the bytes, without and with a space before each, t the bytes as text; > spaces up to a column of the line that began
+// at `start`; _ and ^ a character so many times. Any other letter is nothing.
+pub fn put_code(
+    out: &mut [u8],
+    at: usize,
+    book: &[u8],
+    start: usize,
+    letter: u8,
+    n: u64,
+    s: &[u8],
+) -> usize {
     match letter {
         b'd' => text::put_decimal(out, at, n),
-        b'5' => put_five(out, at, word),
-        b'h' => text::put_byte(out, at, text::digit((n % 16) as u8)),
-        b'b' => text::put_hex(out, at, (n % 256) as u8),
-        b'a' => text::put_address(out, at, word),
-        b'w' => text::put_word(out, at, word),
-        _ => put_long(out, at, n),
-    }
-}
-
-// Appends a name, as a letter says: c a command, r a refusal's reason, s the state of a status byte, m its direction, n, f and F its
-// flags ("no flags", "none" or JSON), g and G the groups of a word ("none" or JSON), o a mode.
-fn put_named(out: &mut [u8], at: usize, letter: u8, n: u64) -> usize {
-    let b = (n % 256) as u8;
-    match letter {
-        b'c' => put_name(out, at, b),
-        b'r' => put_reason(out, at, b),
-        b's' => put_state(out, at, b),
-        b'm' => put_direction(out, at, b),
-        b'n' => put_flags_or(out, at, b, b"no flags"),
-        b'f' => put_flags_or(out, at, b, b"none"),
-        b'F' => put_flags(out, at, b, true),
-        b'g' => put_groups_or(out, at, (n % 65536) as u16, b"none"),
-        b'G' => put_groups(out, at, (n % 65536) as u16, b","),
-        _ => put_mode(out, at, b),
-    }
-}
-
-// Appends what a letter in a form stands for: x and X the bytes, without and with a space before each; > spaces up to a column of the
-// line that began at `start`; a number or a name.
-pub fn put_code(out: &mut [u8], at: usize, start: usize, letter: u8, n: u64, s: &[u8]) -> usize {
-    match letter {
+        b'5' | b'w' | b'a' | b'b' | b'h' => put_digits(out, at, letter, n),
+        b'c' | b's' | b'm' | b'o' | b'S' | b'M' | b'O' => put_named(out, at, book, letter, n),
+        b'n' | b'f' | b'F' | b'g' | b'G' => put_list(out, at, book, letter, n),
+        b'r' => put_reason(out, at, (n % 256) as u8),
         b'x' => text::put_all_hex(out, at, s),
         b'X' => text::put_spaced_hex(out, at, s),
+        b't' => put(out, at, s),
         b'>' => text::put_spaces(out, at, start, n as usize),
-        b'd' | b'5' | b'h' | b'b' | b'a' | b'w' | b'l' => put_number(out, at, letter, n),
-        _ => put_named(out, at, letter, n),
+        b'_' | b'^' => text::put_times(out, at, repeated(letter), n as usize),
+        _ => at,
     }
 }

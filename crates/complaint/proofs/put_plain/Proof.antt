@@ -1,4 +1,4 @@
--- `complaint::put_plain` ends and reads within its slice: the index only grows.
+-- `complaint::put_plain` ends: the index only grows.
 -- Assumes nothing.
 use mathlib.Core.Path.{_≡_}
 use Prim.Native.Nat.{_-_}
@@ -9,10 +9,10 @@ use Rattle.complaint.proofs.put_plain.Statement.{statement}
 use Rattle.complaint.proofs.put_plain.Tie as tie
 
 abbrev Inv-loop : tie.InvT-loop
-Inv-loop out₀ at word s a₀ i₀ out a i = length out ≡ length out₀
+Inv-loop out₀ word a₀ i₀ out a i = length out ≡ length out₀
 
 abbrev μ-loop : tie.MeasureT-loop
-μ-loop out₀ at word s a₀ i₀ out a i = length s - i
+μ-loop out₀ word a₀ i₀ out a i = length word - i
 
 pub put-plain-spec : {M : Type 1} → statement M
 put-plain-spec =
@@ -20,7 +20,6 @@ put-plain-spec =
     (tie.spec
     Inv-loop
     μ-loop
-    (λ c κs. search needs)
     (λ c. search needs)
     (λ c. search needs)
     (λ c κs. search needs)

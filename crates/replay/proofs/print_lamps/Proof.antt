@@ -9,10 +9,10 @@ use Rattle.replay.proofs.print_lamps.Statement.{statement}
 use Rattle.replay.proofs.print_lamps.Tie as tie
 
 abbrev Inv-loop : tie.InvT-loop
-Inv-loop out₀ mem lamps json run₀ place₀ out run place = length out ≡ length out₀
+Inv-loop out₀ book mem look count run₀ place₀ out run place = length out ≡ length out₀
 
 abbrev μ-loop : tie.MeasureT-loop
-μ-loop out₀ mem lamps json run₀ place₀ out run place = lamps - place
+μ-loop out₀ book mem look count run₀ place₀ out run place = count - place
 
 pub print-lamps-spec : {M : Type 1} → statement M
 print-lamps-spec =
@@ -26,6 +26,5 @@ print-lamps-spec =
     (λ c. search needs)
     (λ c. omega arith)
     (λ c. search needs)
-    (λ c κs. search needs)
     (λ c. search needs)
     (λ c. search needs))

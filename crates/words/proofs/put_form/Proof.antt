@@ -8,10 +8,10 @@ use Rattle.words.proofs.put_form.Statement.{statement}
 use Rattle.words.proofs.put_form.Tie as tie
 
 abbrev Inv-loop : tie.InvT-loop
-Inv-loop out₀ at form values s p₀ left₀ out p left = length out ≡ length out₀
+Inv-loop out₀ at book form values s p₀ next₀ left₀ out p next left = length out ≡ length out₀
 
 abbrev μ-loop : tie.MeasureT-loop
-μ-loop out₀ at form values s p₀ left₀ out p left = left
+μ-loop out₀ at book form values s p₀ next₀ left₀ out p next left = left
 
 pub put-form-spec : {M : Type 1} → statement M
 put-form-spec =
@@ -21,8 +21,10 @@ put-form-spec =
     μ-loop
     (λ c. search needs)
     (λ c κs. search needs)
+    (λ c κs. search needs)
     (λ c. search needs)
     (λ c. search needs)
+    (λ c κs. search needs)
     (λ c. search needs)
     (λ c. omega arith)
     (λ c. search needs)

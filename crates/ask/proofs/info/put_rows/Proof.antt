@@ -9,10 +9,10 @@ use Rattle.ask.proofs.info.put_rows.Statement.{statement}
 use Rattle.ask.proofs.info.put_rows.Tie as tie
 
 abbrev Inv-loop : tie.InvT-loop
-Inv-loop out₀ at a₀ number₀ out a number = length out ≡ length out₀
+Inv-loop out₀ at book a₀ number₀ out a number = length out ≡ length out₀
 
 abbrev μ-loop : tie.MeasureT-loop
-μ-loop out₀ at a₀ number₀ out a number = 0x80 - number
+μ-loop out₀ at book a₀ number₀ out a number = 0x80 - number
 
 pub put-rows-spec : {M : Type 1} → statement M
 put-rows-spec =

@@ -7,10 +7,10 @@ use Rattle.words.proofs.names.command_named.Statement.{statement}
 use Rattle.words.proofs.names.command_named.Tie as tie
 
 abbrev Inv-loop : tie.InvT-loop
-Inv-loop word number₀ number = Unit {0}
+Inv-loop book word number₀ number = Unit {0}
 
 abbrev μ-loop : tie.MeasureT-loop
-μ-loop word number₀ number = 0x50 - number
+μ-loop book word number₀ number = 0x50 - number
 
 pub command-named-spec : {M : Type 1} → statement M
 command-named-spec =

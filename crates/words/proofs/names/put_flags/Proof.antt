@@ -8,10 +8,10 @@ use Rattle.words.proofs.names.put_flags.Statement.{statement}
 use Rattle.words.proofs.names.put_flags.Tie as tie
 
 abbrev Inv-loop : tie.InvT-loop
-Inv-loop out₀ at status json a₀ left₀ out a left = length out ≡ length out₀
+Inv-loop out₀ at book status json a₀ left₀ out a left = length out ≡ length out₀
 
 abbrev μ-loop : tie.MeasureT-loop
-μ-loop out₀ at status json a₀ left₀ out a left = left
+μ-loop out₀ at book status json a₀ left₀ out a left = left
 
 pub put-flags-spec : {M : Type 1} → statement M
 put-flags-spec =

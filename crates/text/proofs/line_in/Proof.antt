@@ -1,31 +1,34 @@
--- `script::carry` ends: the index only grows.
+-- `text::line_in` ends: each turn goes a line on.
 -- Assumes nothing.
 use mathlib.Core.Path.{_≡_}
 use Prim.Native.Nat.{_-_}
 use native.Mathlib.Omega.{arith}
 use borrow.Author.Needs.{needs}
 use lib.ListN.{length}
-use Rattle.script.proofs.carry.Statement.{statement}
-use Rattle.script.proofs.carry.Tie as tie
+use Rattle.text.proofs.line_in.Statement.{statement}
+use Rattle.text.proofs.line_in.Tie as tie
 
 abbrev Inv-loop : tie.InvT-loop
-Inv-loop buf₀ from to n i₀ buf i = length buf ≡ length buf₀
+Inv-loop list word n at₀ k₀ at k = n ≡ length list
 
 abbrev μ-loop : tie.MeasureT-loop
-μ-loop buf₀ from to n i₀ buf i = n - i
+μ-loop list word n at₀ k₀ at k = n - at
 
-pub carry-spec : {M : Type 1} → statement M
-carry-spec =
+pub line-in-spec : {M : Type 1} → statement M
+line-in-spec =
     tie.close
     (tie.spec
     Inv-loop
     μ-loop
     (λ c. search needs)
+    (λ c κs. search needs)
+    (λ c. search needs)
+    (λ c. search needs)
     (λ c. search needs)
     (λ c κs. search needs)
+    (λ c. search needs)
     (λ c κs. search needs)
     (λ c. search needs)
     (λ c. omega arith)
-    (λ c. search needs)
     (λ c. search needs)
     (λ c. search needs))

@@ -1,26 +1,25 @@
--- `fields::put_cells` ends and reads within its slice: the index only grows.
+-- `fields::grid::put_table` ends: the line only grows.
 -- Assumes nothing.
 use mathlib.Core.Path.{_≡_}
 use Prim.Native.Nat.{_-_}
 use native.Mathlib.Omega.{arith}
 use borrow.Author.Needs.{needs}
 use lib.ListN.{length}
-use Rattle.fields.proofs.put_cells.Statement.{statement}
-use Rattle.fields.proofs.put_cells.Tie as tie
+use Rattle.fields.proofs.grid.put_table.Statement.{statement}
+use Rattle.fields.proofs.grid.put_table.Tie as tie
 
 abbrev Inv-loop : tie.InvT-loop
-Inv-loop out₀ at row s a₀ i₀ out a i = length out ≡ length out₀
+Inv-loop out₀ book s a₀ line₀ out a line = length out ≡ length out₀
 
 abbrev μ-loop : tie.MeasureT-loop
-μ-loop out₀ at row s a₀ i₀ out a i = length s - i
+μ-loop out₀ book s a₀ line₀ out a line = 9 - line
 
-pub put-cells-spec : {M : Type 1} → statement M
-put-cells-spec =
+pub put-table-spec : {M : Type 1} → statement M
+put-table-spec =
     tie.close
     (tie.spec
     Inv-loop
     μ-loop
-    (λ c. search needs)
     (λ c. search needs)
     (λ c κs. search needs)
     (λ c. search needs)

@@ -1,21 +1,21 @@
--- `board::print_lamps` ends: the place only grows.
+-- `lamps::put_lamp` ends: the part only grows.
 -- Assumes nothing.
 use mathlib.Core.Path.{_≡_}
 use Prim.Native.Nat.{_-_}
 use native.Mathlib.Omega.{arith}
 use borrow.Author.Needs.{needs}
 use lib.ListN.{length}
-use Rattle.board.proofs.print_lamps.Statement.{statement}
-use Rattle.board.proofs.print_lamps.Tie as tie
+use Rattle.lamps.proofs.put_lamp.Statement.{statement}
+use Rattle.lamps.proofs.put_lamp.Tie as tie
 
 abbrev Inv-loop : tie.InvT-loop
-Inv-loop out₀ mem lamps columns run₀ place₀ out run place = length out ≡ length out₀
+Inv-loop out₀ at book look place lamps l parts a₀ part₀ out a part = length out ≡ length out₀
 
 abbrev μ-loop : tie.MeasureT-loop
-μ-loop out₀ mem lamps columns run₀ place₀ out run place = lamps - place
+μ-loop out₀ at book look place lamps l parts a₀ part₀ out a part = parts - part
 
-pub print-lamps-spec : {M : Type 1} → statement M
-print-lamps-spec =
+pub put-lamp-spec : {M : Type 1} → statement M
+put-lamp-spec =
     tie.close
     (tie.spec
     Inv-loop
@@ -27,7 +27,5 @@ print-lamps-spec =
     (λ c. search needs)
     (λ c. omega arith)
     (λ c. search needs)
-    (λ c κs. search needs)
-    (λ c κs. search needs)
     (λ c. search needs)
     (λ c. search needs))

@@ -1,19 +1,19 @@
--- `text::line_of` ends: each turn goes a line on.
+-- `text::piece_of` ends: each turn goes a piece on.
 -- Assumes nothing.
 use Prim.Native.Nat.{_-_}
 use native.Mathlib.Omega.{arith}
 use borrow.Author.Needs.{needs}
-use Rattle.text.proofs.line_of.Statement.{statement}
-use Rattle.text.proofs.line_of.Tie as tie
+use Rattle.text.proofs.piece_of.Statement.{statement}
+use Rattle.text.proofs.piece_of.Tie as tie
 
 abbrev Inv-loop : tie.InvT-loop
-Inv-loop text k at₀ i₀ at i = Unit {0}
+Inv-loop text k between at₀ i₀ at i = Unit {0}
 
 abbrev μ-loop : tie.MeasureT-loop
-μ-loop text k at₀ i₀ at i = k - i
+μ-loop text k between at₀ i₀ at i = k - i
 
-pub line-of-spec : {M : Type 1} → statement M
-line-of-spec =
+pub piece-of-spec : {M : Type 1} → statement M
+piece-of-spec =
     tie.close
     (tie.spec
     Inv-loop

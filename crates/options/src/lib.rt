@@ -1,8 +1,8 @@
-// The arguments of replay and board.
+// The options of replay and board: the words behind the subcommand's name, with a byte 0 behind each.
 use text::reading::Number;
 
-// What the arguments said. `next` is what the next word is: 0 an option or the file, 1 lamps, 2 setup, 3 to 5 a threshold. `wrong` is
-// the line of `put_wrong` that says what is wrong, 0 for nothing.
+// What the options said. `next` is what the next word is: 0 an option or the file, 1 lamps, 2 setup, 3 to 5 a threshold. `wrong` is the
+// complaint about them.
 pub struct Options {
     pub lamps: u32,
     pub counted: bool,
@@ -33,29 +33,8 @@ fn no_words() -> Options {
         to: 0,
         named: false,
         next: 0,
-        wrong: 0,
+        wrong: complaint::NOTHING,
     }
-}
-
-// Appends what was expected.
-pub fn put_wrong(out: &mut [u8], at: usize, wrong: u8) -> usize {
-    text::put(
-        out,
-        at,
-        text::line_of(
-            b"nothing is wrong
---lamps expects a number
---setup expects a byte of two hex digits
---thresholds expects three bytes of two hex digits
-expected --lamps, --setup, --thresholds, --quiet, --json or a file
-expected one file
---lamps N is missing
-expected a file, or - for standard input
-expected --lamps, --setup, --thresholds or a file
-",
-            wrong as usize,
-        ),
-    )
 }
 
 fn with_wrong(o: Options, wrong: u8) -> Options {
@@ -64,31 +43,30 @@ fn with_wrong(o: Options, wrong: u8) -> Options {
     p
 }
 
-// The words that stand alone.
-fn with_option(o: Options, word: &[u8]) -> Options {
+fn with_next(o: Options, next: u8) -> Options {
     let mut p = o;
-    if check::same(word, b"--lamps") {
-        p.next = 1;
-    } else if check::same(word, b"--setup") {
-        p.next = 2;
-    } else if check::same(word, b"--thresholds") {
-        p.next = 3;
-    } else {
-        return with_switch(o, word);
-    }
+    p.next = next;
     p
 }
 
-fn with_switch(o: Options, word: &[u8]) -> Options {
+// The words that stand alone.
+fn with_option(o: Options, word: &[u8]) -> Options {
     let mut p = o;
-    if check::same(word, b"--quiet") {
-        p.quiet = true;
-    } else if check::same(word, b"--json") {
-        p.json = true;
-    } else {
-        p.wrong = 4;
+    let k = text::line_in(b"--lamps\n--setup\n--thresholds\n--quiet\n--json\n", word);
+    match k {
+        0 => with_next(o, 1),
+        1 => with_next(o, 2),
+        2 => with_next(o, 3),
+        3 => {
+            p.quiet = true;
+            p
+        }
+        4 => {
+            p.json = true;
+            p
+        }
+        _ => with_wrong(o, complaint::OPTION_EXPECTED),
     }
-    p
 }
 
 // Whether a word is an option: two hyphens in front.
@@ -101,7 +79,7 @@ fn is_option(word: &[u8]) -> bool {
 
 fn with_file(o: Options, from: usize, to: usize) -> Options {
     if o.named {
-        return with_wrong(o, 5);
+        return with_wrong(o, complaint::ONE_FILE);
     }
     let mut p = o;
     p.from = from;
@@ -113,7 +91,7 @@ fn with_file(o: Options, from: usize, to: usize) -> Options {
 fn with_lamps(o: Options, word: &[u8]) -> Options {
     let n = text::reading::decimal_of(word);
     let Number::Value(lamps) = n else {
-        return with_wrong(o, 1);
+        return with_wrong(o, complaint::LAMPS_EXPECTED);
     };
     let mut p = o;
     p.lamps = lamps;
@@ -122,9 +100,13 @@ fn with_lamps(o: Options, word: &[u8]) -> Options {
     p
 }
 
-// The line of `put_wrong` for a value that is missing or wrong.
+// The complaint about a value that is missing or wrong.
 fn expected(next: u8) -> u8 {
-    if next < 3 { next } else { 3 }
+    match next {
+        1 => complaint::LAMPS_EXPECTED,
+        2 => complaint::SETUP_EXPECTED,
+        _ => complaint::THRESHOLDS_EXPECTED,
+    }
 }
 
 // A byte: the setup, or the next of the three thresholds.
@@ -159,7 +141,7 @@ fn with_byte(o: Options, word: &[u8]) -> Options {
 
 // A word more, which stands at `from` up to `to`.
 fn with_word(o: Options, word: &[u8], from: usize, to: usize) -> Options {
-    if o.wrong != 0 {
+    if o.wrong != complaint::NOTHING {
         return o;
     }
     let next = o.next;
@@ -175,21 +157,22 @@ fn with_word(o: Options, word: &[u8], from: usize, to: usize) -> Options {
     }
 }
 
-// All words were taken: what is still missing.
-fn complete(o: Options) -> Options {
-    if o.wrong != 0 {
-        return o;
+// What is wrong once all words were taken: what is still missing.
+fn missing(o: Options) -> u8 {
+    if o.wrong != complaint::NOTHING {
+        return o.wrong;
     }
     if o.next != 0 {
-        return with_wrong(o, expected(o.next));
+        return expected(o.next);
     }
     if !o.counted {
-        return with_wrong(o, 6);
+        return complaint::LAMPS_MISSING;
     }
-    if !o.named {
-        return with_wrong(o, 7);
+    if o.named {
+        complaint::NOTHING
+    } else {
+        complaint::FILE_EXPECTED
     }
-    o
 }
 
 // The options in words that are separated by a byte 0.
@@ -202,5 +185,19 @@ pub fn options_of(line: &[u8]) -> Options {
         o = with_word(o, &line[at..end], at, end);
         at = end + 1;
     }
-    complete(o)
+    with_wrong(o, missing(o))
+}
+
+// What is wrong with the options of board, which has neither --quiet nor --json.
+pub fn wrong_for_board(o: Options) -> u8 {
+    if o.wrong == complaint::OPTION_EXPECTED {
+        return complaint::BOARD_OPTION_EXPECTED;
+    }
+    if o.wrong != complaint::NOTHING {
+        return o.wrong;
+    }
+    if bits::or(o.quiet, o.json) {
+        return complaint::BOARD_OPTION_EXPECTED;
+    }
+    complaint::NOTHING
 }

@@ -1,17 +1,17 @@
--- `script::do_turns` ends: the turns left only shrink.
+-- `script::file::do_turns` ends: the turns left only shrink.
 -- Assumes nothing.
 use mathlib.Core.Path.{_≡_}
 use native.Mathlib.Omega.{arith}
 use borrow.Author.Needs.{needs}
 use lib.ListN.{length}
-use Rattle.script.proofs.do_turns.Statement.{statement}
-use Rattle.script.proofs.do_turns.Tie as tie
+use Rattle.script.proofs.file.do_turns.Statement.{statement}
+use Rattle.script.proofs.file.do_turns.Tie as tie
 
 abbrev Inv-loop : tie.InvT-loop
-Inv-loop fd buf₀ mem₀ out₀ style run₀ turns₀ buf mem out run turns = (length buf ≡ length buf₀) × (length mem ≡ length mem₀) × (length out ≡ length out₀)
+Inv-loop fd buf₀ mem₀ out₀ style book run₀ turns₀ buf mem out run turns = (length buf ≡ length buf₀) × (length mem ≡ length mem₀) × (length out ≡ length out₀)
 
 abbrev μ-loop : tie.MeasureT-loop
-μ-loop fd buf₀ mem₀ out₀ style run₀ turns₀ buf mem out run turns = turns
+μ-loop fd buf₀ mem₀ out₀ style book run₀ turns₀ buf mem out run turns = turns
 
 pub do-turns-spec : {M : Type 1} → statement M
 do-turns-spec =
@@ -19,6 +19,7 @@ do-turns-spec =
     (tie.spec
     Inv-loop
     μ-loop
+    (λ c κs. search needs)
     (λ c. search needs)
     (λ c κs. search needs)
     (λ c κs. search needs)

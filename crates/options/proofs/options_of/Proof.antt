@@ -1,12 +1,12 @@
--- `replay::arguments::options_of` ends: each turn takes a word and the byte behind it.
+-- `options::options_of` ends: each turn takes a word and the byte behind it.
 -- Assumes nothing.
 use mathlib.Core.Path.{_≡_}
 use Prim.Native.Nat.{_-_}
 use native.Mathlib.Omega.{arith}
 use borrow.Author.Needs.{needs}
 use lib.ListN.{length}
-use Rattle.replay.proofs.arguments.options_of.Statement.{statement}
-use Rattle.replay.proofs.arguments.options_of.Tie as tie
+use Rattle.options.proofs.options_of.Statement.{statement}
+use Rattle.options.proofs.options_of.Tie as tie
 
 abbrev Inv-loop : tie.InvT-loop
 Inv-loop line n o₀ at₀ o at = n ≡ length line
@@ -30,5 +30,6 @@ options-of-spec =
     (λ c. search needs)
     (λ c. omega arith)
     (λ c. search needs)
+    (λ c κs. search needs)
     (λ c κs. search needs)
     (λ c. search needs))

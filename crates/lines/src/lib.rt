@@ -1,0 +1,181 @@
+// A line of a script: what it says, and what is printed of it once it was done, as text and as JSON. docs/TOOL.md has the forms.
+mod json;
+mod plain;
+
+use text::reading::Number;
+
+// What is printed of each line.
+pub enum Style {
+    Text,
+    Json,
+    Silent,
+}
+
+// What a line is. One that has no line feed yet is open.
+pub enum Kind {
+    Open,
+    Blank,
+    Telegram,
+    Sensor,
+    Malformed,
+}
+
+// A line: the first bytes of its telegram and how many it has, at most 16 of them here; or its sensor report. `next` is where the line
+// behind it begins in a text.
+pub struct Line {
+    pub kind: Kind,
+    pub next: usize,
+    pub bytes: [u8; 16],
+    pub count: usize,
+    pub place: u32,
+    pub temperature: u8,
+    pub faults: u32,
+}
+
+// What a chain gave for a line: the paper's number, and the answer in the first bytes of a room, of 12 at most.
+pub struct Given {
+    pub number: u8,
+    pub answer: [u8; 16],
+    pub size: usize,
+}
+
+// A line without a telegram.
+fn without_bytes(kind: Kind, next: usize) -> Line {
+    Line {
+        kind,
+        next,
+        bytes: [0; 16],
+        count: 0,
+        place: 0,
+        temperature: 0,
+        faults: 0,
+    }
+}
+
+// A line of more than 65,000 bytes is malformed.
+fn kind_of(count: usize, size: usize) -> Kind {
+    if 65000 < size {
+        return Kind::Malformed;
+    }
+    if count == 0 {
+        return Kind::Blank;
+    }
+    Kind::Telegram
+}
+
+// A line of so many bytes in hex, itself so many characters long; none is a blank line.
+fn with_bytes(bytes: [u8; 16], count: usize, size: usize, next: usize) -> Line {
+    Line {
+        kind: kind_of(count, size),
+        next,
+        bytes,
+        count,
+        place: 0,
+        temperature: 0,
+        faults: 0,
+    }
+}
+
+fn with_sensor(place: u32, temperature: u8, faults: u32) -> Line {
+    Line {
+        kind: Kind::Sensor,
+        next: 0,
+        bytes: [0; 16],
+        count: 0,
+        place,
+        temperature,
+        faults,
+    }
+}
+
+// The report behind its place.
+fn sensor_words(line: &[u8], place: u32, at: usize) -> Line {
+    let second = text::reading::word_at(line, at);
+    let third = text::reading::word_at(line, second.to);
+    let rest = text::reading::word_at(line, third.to);
+    let temperature = text::reading::byte_of(text::part(line, second.from, second.to));
+    let Number::Value(t) = temperature else {
+        return without_bytes(Kind::Malformed, 0);
+    };
+    let faults = text::reading::decimal_of(text::part(line, third.from, third.to));
+    let Number::Value(f) = faults else {
+        return without_bytes(Kind::Malformed, 0);
+    };
+    if rest.from < rest.to {
+        return without_bytes(Kind::Malformed, 0);
+    }
+    with_sensor(place, (t % 256) as u8, f)
+}
+
+// The sensor report that a line without comment says.
+fn sensor_of(line: &[u8]) -> Line {
+    let name = text::reading::word_at(line, 0);
+    if !check::same(text::part(line, name.from, name.to), b"sensor") {
+        return without_bytes(Kind::Malformed, 0);
+    }
+    let first = text::reading::word_at(line, name.to);
+    let place = text::reading::decimal_of(text::part(line, first.from, first.to));
+    let Number::Value(p) = place else {
+        return without_bytes(Kind::Malformed, 0);
+    };
+    sensor_words(line, p, first.to)
+}
+
+// What a line says, without its line feed.
+fn line_of(line: &[u8]) -> Line {
+    if 65000 < line.len() {
+        return without_bytes(Kind::Malformed, 0);
+    }
+    let mut bytes = [0u8; 16];
+    let code = text::first(line, bytes::scan::find(line, 0, line.len(), b'#'));
+    let h = text::reading::hex_at(code, 0, &mut bytes);
+    if h.at < code.len() {
+        return sensor_of(code);
+    }
+    with_bytes(bytes, h.count, 0, 0)
+}
+
+// A line of any kind, and where the next one begins.
+fn with_next(line: Line, next: usize) -> Line {
+    let mut l = line;
+    l.next = next;
+    l
+}
+
+// The line at an index of a text: hex up to its line feed at once, anything else as a line of any kind. The last line of a file needs no
+// line feed.
+pub fn line_at(s: &[u8], at: usize, last: bool) -> Line {
+    let mut bytes = [0u8; 16];
+    let h = text::reading::hex_at(s, at, &mut bytes);
+    let n = s.len();
+    if n < at {
+        return without_bytes(Kind::Open, at);
+    }
+    if text::byte_at(s, h.at) == b'\n' {
+        let size = std::num::wrapping_sub_usize(h.at, at);
+        let next = std::num::wrapping_add_usize(h.at, 1);
+        return with_bytes(bytes, h.count, size, next);
+    }
+    let end = bytes::scan::find(s, at, n, b'\n');
+    if bits::and(end == n, !last) {
+        return without_bytes(Kind::Open, at);
+    }
+    with_next(line_of(&s[at..end]), std::num::wrapping_add_usize(end, 1))
+}
+
+// Appends what is printed of a line that was done: its number in the script, what it says, and what the chain gave. `book` is `words::book`.
+pub fn put_line(
+    out: &mut [u8],
+    at: usize,
+    style: Style,
+    number: u64,
+    line: Line,
+    given: Given,
+    book: &[u8],
+) -> usize {
+    match style {
+        Style::Text => plain::put_line(out, at, book, number, line, given),
+        Style::Json => json::put_line(out, at, book, number, line, given),
+        Style::Silent => at,
+    }
+}

@@ -1,0 +1,102 @@
+// What is printed of a line of a script as text.
+use crate::Given;
+use crate::Kind;
+use crate::Line;
+use words::Told;
+use words::put_told;
+use words::values_told;
+
+// Appends the bytes behind a tag, and spaces up to column 40. Of more than 12 bytes the first 11 are shown.
+fn put_sent(out: &mut [u8], at: usize, book: &[u8], s: &[u8]) -> usize {
+    if 12 < s.len() {
+        let told = values_told(13, 0, 40, 0, 0);
+        return put_told(out, at, book, told, text::first(s, 11));
+    }
+    let a = text::put(out, at, b"tx");
+    let b = text::put_spaced_hex(out, a, s);
+    text::put_spaces(out, b, at, 40)
+}
+
+// Appends the answer, or that there is none.
+fn put_received(out: &mut [u8], at: usize, book: &[u8], answer: [u8; 16], size: usize) -> usize {
+    if size == 0 {
+        return text::put(out, at, b"\nrx none\n");
+    }
+    let told = values_told(14, 0, 41, 0, 0);
+    let a = put_told(out, at, book, told, text::first(&answer, size));
+    let b = words::put_answer(out, a, book, words::message_of(answer, size));
+    text::put_byte(out, b, b'\n')
+}
+
+// Appends the line's number and its refusal.
+fn put_refused(out: &mut [u8], at: usize, book: &[u8], number: u64, refusal: u8) -> usize {
+    let n = refusal as u64;
+    put_told(out, at, book, values_told(15, number, n, n, 0), b"")
+}
+
+fn put_telegram(
+    out: &mut [u8],
+    at: usize,
+    book: &[u8],
+    number: u64,
+    line: Line,
+    given: Given,
+) -> usize {
+    let bytes = line.bytes;
+    let a = put_sent(out, at, book, text::first(&bytes, line.count));
+    if given.number != 0 {
+        return put_refused(out, a, book, number, given.number);
+    }
+    let answer = given.answer;
+    let b = words::put_command(out, a, book, words::message_of(bytes, line.count));
+    put_received(out, b, book, answer, given.size)
+}
+
+// What a report did. Its faults are the lowest three flags of a status byte.
+fn sensed_told(line: Line) -> Told {
+    let faults = line.faults as u64;
+    values_told(
+        if faults == 0 { 17 } else { 18 },
+        line.place as u64,
+        line.temperature as u64,
+        faults,
+        0,
+    )
+}
+
+fn put_sensor(
+    out: &mut [u8],
+    at: usize,
+    book: &[u8],
+    number: u64,
+    line: Line,
+    refusal: u8,
+) -> usize {
+    let said = values_told(
+        16,
+        line.place as u64,
+        line.temperature as u64,
+        line.faults as u64,
+        40,
+    );
+    let a = put_told(out, at, book, said, b"");
+    if refusal != 0 {
+        return put_refused(out, a, book, number, refusal);
+    }
+    put_told(out, a, book, sensed_told(line), b"")
+}
+
+pub fn put_line(
+    out: &mut [u8],
+    at: usize,
+    book: &[u8],
+    number: u64,
+    line: Line,
+    given: Given,
+) -> usize {
+    let kind = line.kind;
+    match kind {
+        Kind::Sensor => put_sensor(out, at, book, number, line, given.number),
+        _ => put_telegram(out, at, book, number, line, given),
+    }
+}
