@@ -6,16 +6,8 @@ use words::Named;
 use words::Told;
 use words::values_told;
 
-// Which of three forms goes with a column of casts.
-fn form_of(casts: Casts) -> u8 {
-    match casts {
-        Casts::All => 0,
-        Casts::Single => 1,
-        Casts::First => 2,
-    }
-}
-
-// Appends a form: 0 to 2 a row of the list, 3 to 5 a block, 6 and 7 the block's payload, with and without an answer.
+// Appends a form: the start of a row of the list, its end; the start of a block, its payload with and without an answer; the words for
+// casts.
 fn put_told(out: &mut [u8], at: usize, book: &[u8], told: Told, s: &[u8]) -> usize {
     let values = told.values;
     words::put_form(
@@ -23,20 +15,30 @@ fn put_told(out: &mut [u8], at: usize, book: &[u8], told: Told, s: &[u8]) -> usi
         at,
         book,
         text::page_of(
-            b"%b  %c%>one group everyone%>      %d      %d %t\n%;
-|%b  %c%>one%>      %d      %d %t\n%;
-|%b  %c%>first address, 000%>      %d      %d %t\n%;
-|TELEGRAM %b: %c\nDESCRIPTION: %t\nCASTING    : one group everyone\nPAYLOAD    : %;
-|TELEGRAM %b: %c\nDESCRIPTION: %t\nCASTING    : one\nPAYLOAD    : %;
-|TELEGRAM %b: %c\nDESCRIPTION: %t\nCASTING    : first address, 000\nPAYLOAD    : %;
-|%d; response %d%t\n%;
-|%d%t; response none\n%;
+            b"%b  %c%>%;
+|      %d      %d %t\n%;
+|TELEGRAM %b: %c\nDESCRIPTION: %t\nCASTING    : %;
+|\nPAYLOAD    : %d; response %d%t\n%;
+|\nPAYLOAD    : %d%t; response none\n%;
+|one group everyone%>%;
+|one%>%;
+|first address, 000%>%;
 ",
             told.row as usize,
         ),
         values,
         s,
     )
+}
+
+// The words for casts, in a column of so many characters.
+fn casts_told(row: Row, width: u64) -> Told {
+    let casts = row.casts;
+    match casts {
+        Casts::All => values_told(5, width, 0, 0, 0),
+        Casts::Single => values_told(6, width, 0, 0, 0),
+        Casts::First => values_told(7, width, 0, 0, 0),
+    }
 }
 
 // Appends a form with what a command does.
@@ -105,14 +107,13 @@ fn put_bytes(out: &mut [u8], at: usize, book: &[u8], told: Told, number: u8) -> 
     )
 }
 
-// The row of a command in the list.
-fn row_told(number: u8, row: Row) -> Told {
-    let casts = row.casts;
+// Appends the row of a command.
+fn put_row(out: &mut [u8], at: usize, book: &[u8], number: u8, row: Row) -> usize {
     let n = number as u64;
-    Told {
-        row: form_of(casts),
-        values: [n, n, 17, 36, row.payload as u64, row.answer as u64, 0, 0],
-    }
+    let a = put_told(out, at, book, values_told(0, n, n, 17, 0), b"");
+    let b = put_told(out, a, book, casts_told(row, 19), b"");
+    let sizes = values_told(1, row.payload as u64, row.answer as u64, 0, 0);
+    put_described(out, b, book, sizes, number)
 }
 
 // Appends the row of a number, if the table has it.
@@ -121,7 +122,7 @@ fn put_known(out: &mut [u8], at: usize, book: &[u8], number: u8) -> usize {
     let Entry::Known(row) = entry else {
         return at;
     };
-    put_described(out, at, book, row_told(number, row), number)
+    put_row(out, at, book, number, row)
 }
 
 fn put_rows(out: &mut [u8], at: usize, book: &[u8]) -> usize {
@@ -145,17 +146,19 @@ fn print_all(book: &[u8], err: i32) -> u8 {
     complaint::finish(err, complaint::INFO, &page, n, 0)
 }
 
-fn block_told(number: u8, row: Row) -> Told {
-    let casts = row.casts;
-    let n = number as u64;
-    values_told(3 + form_of(casts) % 3, n, n, 0, 0)
-}
-
 // What the payload and the answer are: without an answer, the first value stands alone.
 fn payload_told(row: Row) -> Told {
     let payload = row.payload as u64;
     let answer = row.answer as u64;
-    values_told(if answer == 0 { 7 } else { 6 }, payload, answer, 0, 0)
+    values_told(if answer == 0 { 4 } else { 3 }, payload, answer, 0, 0)
+}
+
+// Appends the block of a command.
+fn put_block(out: &mut [u8], book: &[u8], number: u8, row: Row) -> usize {
+    let n = number as u64;
+    let a = put_described(out, 0, book, values_told(2, n, n, 0, 0), number);
+    let b = put_told(out, a, book, casts_told(row, 0), b"");
+    put_bytes(out, b, book, payload_told(row), number)
 }
 
 fn print_one(book: &[u8], number: u8, err: i32) -> u8 {
@@ -164,8 +167,7 @@ fn print_one(book: &[u8], number: u8, err: i32) -> u8 {
     let Entry::Known(row) = entry else {
         return 2;
     };
-    let a = put_described(&mut page, 0, book, block_told(number, row), number);
-    let n = put_bytes(&mut page, a, book, payload_told(row), number);
+    let n = put_block(&mut page, book, number, row);
     complaint::finish(err, complaint::INFO, &page, n, 0)
 }
 

@@ -4,12 +4,13 @@ use crate::Kind;
 use crate::Line;
 use words::Told;
 use words::put_told;
+use words::texts;
 use words::values_told;
 
 // Appends the bytes behind a tag, and spaces up to column 40. Of more than 12 bytes the first 11 are shown.
 fn put_sent(out: &mut [u8], at: usize, book: &[u8], s: &[u8]) -> usize {
     if 12 < s.len() {
-        let told = values_told(13, 0, 40, 0, 0);
+        let told = values_told(texts::SENT_CUT, 0, 40, 0, 0);
         return put_told(out, at, book, told, text::first(s, 11));
     }
     let a = text::put(out, at, b"tx");
@@ -22,7 +23,7 @@ fn put_received(out: &mut [u8], at: usize, book: &[u8], answer: [u8; 16], size: 
     if size == 0 {
         return text::put(out, at, b"\nrx none\n");
     }
-    let told = values_told(14, 0, 41, 0, 0);
+    let told = values_told(texts::RECEIVED, 0, 41, 0, 0);
     let a = put_told(out, at, book, told, text::first(&answer, size));
     let b = words::put_answer(out, a, book, words::message_of(answer, size));
     text::put_byte(out, b, b'\n')
@@ -31,7 +32,13 @@ fn put_received(out: &mut [u8], at: usize, book: &[u8], answer: [u8; 16], size: 
 // Appends the line's number and its refusal.
 fn put_refused(out: &mut [u8], at: usize, book: &[u8], number: u64, refusal: u8) -> usize {
     let n = refusal as u64;
-    put_told(out, at, book, values_told(15, number, n, n, 0), b"")
+    put_told(
+        out,
+        at,
+        book,
+        values_told(texts::LINE_REFUSED, number, n, n, 0),
+        b"",
+    )
 }
 
 fn put_telegram(
@@ -56,7 +63,11 @@ fn put_telegram(
 fn sensed_told(line: Line) -> Told {
     let faults = line.faults as u64;
     values_told(
-        if faults == 0 { 17 } else { 18 },
+        if faults == 0 {
+            texts::SENSED_NONE
+        } else {
+            texts::SENSED
+        },
         line.place as u64,
         line.temperature as u64,
         faults,
@@ -73,7 +84,7 @@ fn put_sensor(
     refusal: u8,
 ) -> usize {
     let said = values_told(
-        16,
+        texts::SENSOR,
         line.place as u64,
         line.temperature as u64,
         line.faults as u64,

@@ -103,7 +103,7 @@ pub fn hex_five(n: u16) -> [u8; 5] {
 }
 
 // How many of five places a number leaves empty.
-pub fn empty_places(n: u16) -> usize {
+fn empty_places(n: u16) -> usize {
     match n {
         0..=9 => 4,
         10..=99 => 3,

@@ -1,7 +1,7 @@
-// What the tool calls things: commands, casts, refusals, states and flags, and a dissected telegram in words. docs/TOOL.md has the
+// What the tool calls things: commands, casts, refusals, states and flags, and a telegram in words. docs/TOOL.md has the
 // forms. A function named `put_..` appends to a lent buffer of which `at` bytes are used, and answers how many are used then.
 mod names;
-mod texts;
+pub mod texts;
 
 pub use names::Named;
 pub use names::command_named;
@@ -129,15 +129,23 @@ fn cast_told(number: u8, cast: Cast) -> Told {
     let n = number as u64;
     match cast {
         Cast::Everyone => Told {
-            row: if is_init(number) { 1 } else { 0 },
+            row: if is_init(number) {
+                texts::AT_000
+            } else {
+                texts::TO_EVERYONE
+            },
             values: [n, 0, 0, 0, 0, 0, 0, 0],
         },
         Cast::One(a) => Told {
-            row: if is_init(number) { 3 } else { 2 },
+            row: if is_init(number) {
+                texts::FROM_FIRST
+            } else {
+                texts::TO_LAMP
+            },
             values: [n, a.0 as u64, 0, 0, 0, 0, 0, 0],
         },
         Cast::Group(g) => Told {
-            row: 4,
+            row: texts::TO_GROUP,
             values: [n, g as u64, 0, 0, 0, 0, 0, 0],
         },
     }
@@ -156,11 +164,11 @@ pub fn bare(row: u8) -> Told {
     }
 }
 
-// A row with up to four values, the last of them thrice.
+// A row with up to four values.
 pub fn values_told(row: u8, a: u64, b: u64, c: u64, d: u64) -> Told {
     Told {
         row,
-        values: [a, b, c, d, d, d, 0, 0],
+        values: [a, b, c, d, 0, 0, 0, 0],
     }
 }
 
@@ -187,14 +195,17 @@ fn payload_told(number: u8, b: [u8; 8]) -> Told {
     let second = b[1] as u64;
     let word = bits::word(b[0], b[1]) as u64;
     match number {
-        0x0C..=0x0D => values_told(5, word, 0, 0, 0),
-        0x4A..=0x4B => values_told(6, first, second, b[2] as u64, 0),
-        0x4C..=0x4D => values_told(7, first, 0, 0, 0),
-        0x07 => values_told(9, word, bits::word(b[2], b[3]) as u64, 0, 0),
-        0x40 => values_told(10, first, first, first, first),
-        0x48 => values_told(11, first, 0, 0, 0),
+        0x0C..=0x0D => values_told(texts::MASK, word, 0, 0, 0),
+        0x4A..=0x4B => values_told(texts::THRESHOLDS, first, second, b[2] as u64, 0),
+        0x4C..=0x4D => values_told(texts::SETUP, first, 0, 0, 0),
+        0x07 => values_told(texts::IDENTITY, word, bits::word(b[2], b[3]) as u64, 0, 0),
+        0x40 => values_told(texts::STATUS, first, first, first, first),
+        0x48 => values_told(texts::TEMPERATURE, first, 0, 0, 0),
         // 02, 03 and 42, the other answers
-        _ => values_told(8, first, second, second, second),
+        _ => Told {
+            row: texts::REPORT,
+            values: [first, second, second, second, second, 0, 0, 0],
+        },
     }
 }
 
@@ -248,7 +259,7 @@ fn put_lamp(out: &mut [u8], at: usize, book: &[u8], m: Message) -> usize {
 // Appends a command's name and to whom it goes.
 fn put_cast(out: &mut [u8], at: usize, book: &[u8], m: Message) -> usize {
     let told = cast_told(m.number, cast_of(m));
-    if told.row == 2 {
+    if told.row == texts::TO_LAMP {
         return put_lamp(out, at, book, m);
     }
     put_told(out, at, book, told, b"")
@@ -262,7 +273,7 @@ pub fn put_command(out: &mut [u8], at: usize, book: &[u8], m: Message) -> usize 
 
 // Appends an answer in words.
 pub fn put_answer(out: &mut [u8], at: usize, book: &[u8], m: Message) -> usize {
-    let told = values_told(12, m.address as u64, m.number as u64, 0, 0);
+    let told = values_told(texts::ANSWERS, m.address as u64, m.number as u64, 0, 0);
     let a = put_told(out, at, book, told, b"");
     put_payload(out, a, book, m)
 }

@@ -1,4 +1,5 @@
 // The names of things, by their numbers, and what a letter in a form stands for.
+use crate::texts::NAMES_AT;
 use text::put;
 
 // The command that a name says, by its number.
@@ -35,7 +36,7 @@ pub fn row_of(number: u8) -> u8 {
 // Appends name k of the book: commands from 0 on, states from 20, directions from 24, modes from 26, words for nothing from 28, from 32 on
 // four forms of each flag, as text and behind another, as JSON and behind another.
 pub fn put_name(out: &mut [u8], at: usize, book: &[u8], k: u8) -> usize {
-    let start = 1920 + k as usize * 16;
+    let start = NAMES_AT + k as usize * 16;
     put(out, at, text::ended(text::from(book, start)))
 }
 
@@ -257,6 +258,7 @@ fn hidden_for(letter: u8) -> usize {
     }
 }
 
+// Appends the digits of a number.
 pub fn put_digits(out: &mut [u8], at: usize, letter: u8, n: u64) -> usize {
     let digits = digits_for(letter, (n % 65536) as u16);
     put(out, at, text::from(&digits, hidden_for(letter)))

@@ -1,7 +1,71 @@
 // The book of a replay: the forms and names that it prints, laid out once and then lent, since a text in the code is laid out anew at
 // each call.
 
-// Puts the forms, of 64 bytes each: of commands and answers from 0 on, of lines as text from 13, of lines as JSON from 19.
+// The rows of `put_forms`: of commands and answers ..
+pub const TO_EVERYONE: u8 = 0;
+
+pub const AT_000: u8 = 1;
+
+pub const TO_LAMP: u8 = 2;
+
+pub const FROM_FIRST: u8 = 3;
+
+pub const TO_GROUP: u8 = 4;
+
+pub const MASK: u8 = 5;
+
+pub const THRESHOLDS: u8 = 6;
+
+pub const SETUP: u8 = 7;
+
+pub const REPORT: u8 = 8;
+
+pub const IDENTITY: u8 = 9;
+
+pub const STATUS: u8 = 10;
+
+pub const TEMPERATURE: u8 = 11;
+
+pub const ANSWERS: u8 = 12;
+// .. of lines as text ..
+pub const SENT_CUT: u8 = 13;
+
+pub const RECEIVED: u8 = 14;
+
+pub const LINE_REFUSED: u8 = 15;
+
+pub const SENSOR: u8 = 16;
+
+pub const SENSED_NONE: u8 = 17;
+
+pub const SENSED: u8 = 18;
+// .. and of lines as JSON.
+pub const JSON_SENT: u8 = 19;
+
+pub const JSON_SENSOR: u8 = 20;
+
+pub const JSON_EVERYONE: u8 = 21;
+
+pub const JSON_ONE: u8 = 22;
+
+pub const JSON_GROUP: u8 = 23;
+
+pub const JSON_PAYLOAD: u8 = 24;
+
+pub const JSON_NONE: u8 = 25;
+
+pub const JSON_RECEIVED: u8 = 26;
+
+pub const JSON_ANSWER: u8 = 27;
+
+pub const JSON_REFUSED: u8 = 28;
+
+pub const JSON_DONE: u8 = 29;
+
+// Where the names begin in the book: behind room for 48 forms.
+pub const NAMES_AT: usize = 3072;
+
+// Puts the forms, of 64 bytes each.
 fn put_forms(out: &mut [u8]) -> usize {
     text::put(
         out,
@@ -41,10 +105,10 @@ place %d: temperature %b, sets %f\n%;                          |
 }
 
 // Puts the names, of 16 bytes each, as `names::put_name` counts them.
-fn put_names(out: &mut [u8], at: usize) -> usize {
+fn put_names(out: &mut [u8]) -> usize {
     text::put(
         out,
-        at,
+        NAMES_AT,
         b"reset|          clrerror|       initbidir|      initloop|     |
 gosleep|        goactive|       godeepsleep|    identify|     |
 readmult|       setmult|        readstatus|     readtempst|   |
@@ -64,9 +128,9 @@ OTPCRC|          OTPCRC|        \"OTPCRC\"|       ,\"OTPCRC\"|    |
 }
 
 // The forms, and behind them the names.
-pub fn book() -> [u8; 2816] {
-    let mut book = [0u8; 2816];
-    let at = put_forms(&mut book);
-    put_names(&mut book, at);
+pub fn book() -> [u8; 4096] {
+    let mut book = [0u8; 4096];
+    put_forms(&mut book);
+    put_names(&mut book);
     book
 }
