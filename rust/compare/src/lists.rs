@@ -1,12 +1,17 @@
 //! Demand 3 of document 01, "Lists of deliveries", tried on the library alone:
 //! each lamp of a chain does what it would do without the others, and
 //! neighbours in the list may trade places.
+//!
+//! - [`deliveries`]: the telegrams of a list, and what they gave back.
 
-use crate::chains::{answer_room, defaults, delivering, init_for, slot};
-use crate::check::{hex, input};
+mod deliveries;
+
+use crate::chains::{defaults, slot};
+use crate::check::hex;
 use crate::library::LIBRARY;
-use crate::material::*;
+use crate::material::fitting;
 use crate::random::Random;
+use deliveries::{any_list, deliver, same, telegram_text, Delivery, Given};
 use std::collections::BTreeSet;
 
 /// What an unwritten byte of a room or behind a record holds.
@@ -38,22 +43,6 @@ pub struct Tally {
     pub trades: u64,
     /// Telegrams that were nobody's.
     pub nobodys: u64,
-}
-
-/// A telegram of a list and the room for its answer.
-#[derive(Clone)]
-struct Delivery {
-    bytes: Vec<u8>,
-    room: usize,
-    /// To which address the dissector accepts it, or the refusal.
-    address: Result<u32, u32>,
-}
-
-/// What a delivery gave back, and the room behind it.
-#[derive(Clone, PartialEq, Eq)]
-struct Given {
-    result: u32,
-    room: Vec<u8>,
 }
 
 /// The record with which a list begins: made, then numbered by one init.
@@ -265,30 +254,6 @@ fn may_trade(one: &Delivery, other: &Delivery) -> bool {
     matches!((one.address, other.address), (Ok(one), Ok(other)) if one != other)
 }
 
-/// Delivers a telegram to the library.
-fn deliver(record: &mut [u8], delivery: &Delivery, tally: &mut Tally) -> Given {
-    let mut room = vec![FILL; delivery.room];
-    let result = (LIBRARY.deliver)(record, &delivery.bytes, &mut room);
-    tally.deliveries += 1;
-    Given { result, room }
-}
-
-/// Demands that a telegram gave the same both times.
-fn same(one: &Given, other: &Given, delivery: &Delivery, what: &str) -> Result<(), String> {
-    if one == other {
-        return Ok(());
-    }
-    let text = telegram_text(delivery);
-    let line = |given: &Given| {
-        let (number, count) = (given.result % 256, given.result / 256);
-        format!("number {number}, count {count}, room {}", hex(&given.room))
-    };
-    let (one, other) = (line(one), line(other));
-    Err(format!(
-        "{what}: {text}\n  as listed {one}\n  otherwise {other}"
-    ))
-}
-
 /// Every field of the lamp at a place.
 fn fields(record: &[u8], place: usize) -> Result<Vec<u8>, String> {
     let mut room = vec![FILL; 18];
@@ -298,73 +263,6 @@ fn fields(record: &[u8], place: usize) -> Result<Vec<u8>, String> {
             "the lamp at place {place} is not read out: {other}"
         )),
     }
-}
-
-/// A list for a chain: telegrams for its lamps, for nobody, and refused ones.
-fn any_list(start: &Start, length: usize, random: &mut Random) -> Vec<Delivery> {
-    let favourites = [0; 4].map(|_| start.first + random.below(start.count) as u32);
-    let mut list = Vec::new();
-    while list.len() < length {
-        let any = start.first + random.below(start.count) as u32;
-        let bytes = match random.below(10) {
-            0 => one_lamp(lamp(random), random),
-            1 | 2 => refused(start, random),
-            3 => one_lamp(any, random),
-            _ => one_lamp(random.pick(&favourites), random),
-        };
-        let room = answer_room(random);
-        let address = dissected(&bytes);
-        if address != Err(5) {
-            list.push(Delivery {
-                bytes,
-                room,
-                address,
-            });
-        }
-    }
-    list
-}
-
-/// A command for one lamp that is no init; RESET less often than the others.
-fn one_lamp(address: u32, random: &mut Random) -> Vec<u8> {
-    let mut known = random.pick(&KNOWN);
-    while known.is_init() || known.number == 0 && random.below(4) > 0 {
-        known = random.pick(&KNOWN);
-    }
-    fitting(address, known.number, &random.bytes(known.payload))
-}
-
-/// A telegram that the dissector refuses with a number other than 5.
-fn refused(start: &Start, random: &mut Random) -> Vec<u8> {
-    loop {
-        let mut bytes = match random.below(5) {
-            0 => good(random),
-            1 => init_for(start.count, random),
-            2 => fitting(0, random.between(2, 3), &random.bytes(2)),
-            _ => one_lamp(start.first, random),
-        };
-        for _ in 0..random.below(3) {
-            damage(&mut bytes, random);
-        }
-        if matches!(dissected(&bytes), Err(number) if number != 5) {
-            return bytes;
-        }
-    }
-}
-
-/// To which one-lamp address the library's dissector accepts a telegram, or
-/// the refusal.
-fn dissected(bytes: &[u8]) -> Result<u32, u32> {
-    let mut room = [0; 12];
-    match (LIBRARY.dissect)(bytes, &mut room) % 256 {
-        0 => Ok(u32::from(room[2]) << 8 | u32::from(room[3])),
-        number => Err(number),
-    }
-}
-
-/// A telegram with its room.
-fn telegram_text(delivery: &Delivery) -> String {
-    input(&delivering(&delivery.bytes, delivery.room))
 }
 
 /// The text of a list that went wrong.
