@@ -7,12 +7,12 @@ use telegram::Read;
 use telegram::Refusal;
 use telegram::Telegram;
 ghost use mathlib.Core.Path.{_≡_};
-ghost use Prim.Native.Nat.{_+_, _*_, _/_, _%_, _≤_, _<_};
+ghost use Prim.Native.Nat.{_+_, _*_, _≤_, _<_};
 ghost use mathlib.Core.List.{[], _∷_};
 ghost use lib.ListN.{length};
 ghost use Rattle.telegram.specs.Numbers.{done};
 ghost use Rattle.table.specs.Table.{answerSizeOf};
-ghost use Rattle.command.specs.Fields.{octets, long as long_layout, wordAt, modeOf, fieldsBy};
+ghost use Rattle.command.specs.Fields.{octets, long as long_layout, fieldsBy};
 ghost use Rattle.command.specs.Commands.{numbered, partsBy};
 ghost use Rattle.answer.specs.Answers.{answerLayoutOf, answerMessageOf, answerAddress, answerLaidOut, replyAs, namingAnswer, dissectingAnswer};
 
@@ -42,34 +42,7 @@ pub enum AnswerDissection {
     Refused(Refusal),
 }
 
-// The word at an index of a payload.
-fn word_at(p: &[u8], i: usize) -> u16
-    requires { ⌜ i + 1 < length (now p) ⌝ }
-    ensures { λ r. ⌜ r ≡ wordAt (now (p .entry)) i ⌝ }
-{
-    let high = p[i];
-    let low = p[i + 1];
-    bits::word(high, low)
-}
-
-// The PWM word at an index of a payload.
-fn pwm_at(p: &[u8], i: usize) -> Pwm
-    requires { ⌜ i + 1 < length (now p) ⌝ }
-    ensures { λ r. ⌜ (modeOf r ≡ wordAt (now (p .entry)) i / 32768) × (r .duty ≡ wordAt (now (p .entry)) i % 32768) ⌝ }
-{
-    command::pwm_of(word_at(p, i))
-}
-
-// The number of four bytes, high byte first, at the front of a payload.
-fn long_at(p: &[u8]) -> u32
-    requires { ⌜ 4 ≤ length (now p) ⌝ }
-    ensures { λ r. ⌜ r ≡ wordAt (now (p .entry)) 0 * 65536 + wordAt (now (p .entry)) 2 ⌝ }
-{
-    let high = word_at(p, 0);
-    let low = word_at(p, 2);
-    long(high, low)
-}
-
+// The number of two words, high word first.
 fn long(high: u16, low: u16) -> u32
     ensures { λ r. ⌜ r ≡ high * 65536 + low ⌝ }
 {
@@ -84,13 +57,17 @@ fn answer_of(n: u8, p: &[u8]) -> Answer
     match n {
         0x02 => Answer::InitBidir(p[0], p[1]),
         0x03 => Answer::InitLoop(p[0], p[1]),
-        0x07 => Answer::Identity(long_at(p)),
-        0x0C => Answer::Mask(word_at(p, 0)),
+        0x07 => Answer::Identity(long(bits::word(p[0], p[1]), bits::word(p[2], p[3]))),
+        0x0C => Answer::Mask(bits::word(p[0], p[1])),
         0x42 => Answer::TempStatus(p[0], p[1]),
         0x48 => Answer::Temp(p[0]),
         0x4A => Answer::Thresholds(p[0], p[1], p[2]),
         0x4C => Answer::Setup(p[0]),
-        0x4E => Answer::Words(pwm_at(p, 0), pwm_at(p, 2), pwm_at(p, 4)),
+        0x4E => Answer::Words(
+            command::pwm_from(p[0], p[1]),
+            command::pwm_from(p[2], p[3]),
+            command::pwm_from(p[4], p[5]),
+        ),
         // 40, the only number with answers that is left
         _ => Answer::Status(p[0]),
     }

@@ -3,11 +3,9 @@ mod payload;
 
 use payload::bare_parts;
 pub use payload::one_byte;
-use payload::pwm_at;
-pub use payload::pwm_of;
+pub use payload::pwm_from;
 pub use payload::pwm_parts;
 pub use payload::three_bytes;
-use payload::word_at;
 pub use payload::word_parts;
 use table::Cast;
 use table::Destination;
@@ -101,7 +99,7 @@ fn command_of(n: u8, p: &[u8]) -> Command
         0x06 => Command::GoDeepSleep,
         0x07 => Command::Identify,
         0x0C => Command::ReadMult,
-        0x0D => Command::SetMult(word_at(p, 0)),
+        0x0D => Command::SetMult(bits::word(p[0], p[1])),
         0x40 => Command::ReadStatus,
         0x42 => Command::ReadTempStatus,
         0x48 => Command::ReadTemp,
@@ -110,7 +108,11 @@ fn command_of(n: u8, p: &[u8]) -> Command
         0x4C => Command::ReadSetup,
         0x4D => Command::SetSetup(p[0]),
         0x4E => Command::ReadPwm,
-        0x4F => Command::SetPwm(pwm_at(p, 0), pwm_at(p, 2), pwm_at(p, 4)),
+        0x4F => Command::SetPwm(
+            pwm_from(p[0], p[1]),
+            pwm_from(p[2], p[3]),
+            pwm_from(p[4], p[5]),
+        ),
         // 00, the only number of the table that is left
         _ => Command::Reset,
     }

@@ -2,40 +2,22 @@
 use crate::Parts;
 use crate::Pwm;
 ghost use mathlib.Core.Path.{_≡_};
-ghost use Prim.Native.Nat.{_+_, _*_, _/_, _%_, _<_};
+ghost use Prim.Native.Nat.{_+_, _*_, _/_, _%_};
 ghost use mathlib.Core.Bool.{_&&_};
 ghost use mathlib.Core.List.{[], _∷_};
 ghost use lib.Dec.{leb};
-ghost use lib.ListN.{length};
-ghost use Rattle.command.specs.Fields.{octets, word as word_layout, pwm as pwm_layout, wordAt, modeOf, pwmFields};
+ghost use Rattle.command.specs.Fields.{octets, word as word_layout, pwm as pwm_layout, modeOf, pwmFields};
 ghost use Rattle.command.specs.Commands.{numbered, partsBy};
 
-// The word at an index of a payload.
-pub(crate) fn word_at(p: &[u8], i: usize) -> u16
-    requires { ⌜ i + 1 < length (now p) ⌝ }
-    ensures { λ r. ⌜ r ≡ wordAt (now (p .entry)) i ⌝ }
+// The PWM word of two bytes, high byte first.
+pub fn pwm_from(high: u8, low: u8) -> Pwm
+    ensures { λ r. ⌜ (modeOf r ≡ (high * 256 + low) / 32768) × (r .duty ≡ (high * 256 + low) % 32768) ⌝ }
 {
-    let high = p[i];
-    let low = p[i + 1];
-    bits::word(high, low)
-}
-
-// A PWM word taken apart.
-pub fn pwm_of(w: u16) -> Pwm
-    ensures { λ r. ⌜ (modeOf r ≡ w / 32768) × (r .duty ≡ w % 32768) ⌝ }
-{
+    let w = bits::word(high, low);
     Pwm {
         day: 32768 <= w,
         duty: w % 32768,
     }
-}
-
-// The PWM word at an index of a payload.
-pub(crate) fn pwm_at(p: &[u8], i: usize) -> Pwm
-    requires { ⌜ i + 1 < length (now p) ⌝ }
-    ensures { λ r. ⌜ (modeOf r ≡ wordAt (now (p .entry)) i / 32768) × (r .duty ≡ wordAt (now (p .entry)) i % 32768) ⌝ }
-{
-    pwm_of(word_at(p, i))
 }
 
 // A message with no field.

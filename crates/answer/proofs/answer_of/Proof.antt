@@ -3,9 +3,10 @@
 use mathlib.Core.Path.{_≡_, _∙_, refl, ap}
 use mathlib.Core.Bool.{Bool, true, false}
 use mathlib.Core.List.{List, [], _∷_}
-use Prim.Native.Nat.{ℕ, _<_}
+use Prim.Native.Nat.{ℕ, _+_, _*_, _<_}
 use native.Mathlib.Omega.{arith}
 use lib.Dec.{eqb}
+use borrow.Author.Needs.{needs}
 use borrow.Author.Tests.{ne-eqb}
 use Rattle.telegram.specs.Numbers.{Outcome, refused, done}
 use Rattle.table.specs.Table.{rowOf, answerSizeOf}
@@ -34,6 +35,10 @@ status c =
     only-left silent answerSizeOf keys 0x40 tt (c .before .before .args .n) (omega arith) (c .match .rest)
     (ap silent (h .0) ∙ spoken (h .1))
 
+-- a number of four bytes is two words
+joined : {r h l x y : ℕ} → r ≡ h * 65536 + l → h ≡ x → l ≡ y → r ≡ x * 65536 + y
+joined e f g = omega arith
+
 pub answer-of-spec : {M : Type 1} → statement M
 unfolding answerLayoutOf rowOf
 answer-of-spec =
@@ -43,8 +48,16 @@ answer-of-spec =
     (λ c. omega (arith, sized answerSizeOf 2 (c .before .before .match .keys1) refl (c .before .before .before .before .pre .0)))
     (λ c. omega (arith, sized answerSizeOf 2 (c .before .match .keys2) refl (c .before .before .before .pre .0)))
     (λ c. omega (arith, sized answerSizeOf 2 (c .before .before .match .keys2) refl (c .before .before .before .before .pre .0)))
-    (λ c κs. omega (arith, sized answerSizeOf 4 (c .match .keys3) refl (c .before .before .pre .0)))
-    (λ c κs. omega (arith, sized answerSizeOf 2 (c .match .keys4) refl (c .before .before .pre .0)))
+    (λ c. omega (arith, sized answerSizeOf 4 (c .before .match .keys3) refl (c .before .before .before .pre .0)))
+    (λ c. omega (arith, sized answerSizeOf 4 (c .before .before .match .keys3) refl (c .before .before .before .before .pre .0)))
+    (λ c κs. search needs)
+    (λ c. omega (arith, sized answerSizeOf 4 (c .before .before .before .before .match .keys3) refl (c .before .before .before .before .before .before .pre .0)))
+    (λ c. omega (arith, sized answerSizeOf 4 (c .before .before .before .before .before .match .keys3) refl (c .before .before .before .before .before .before .before .pre .0)))
+    (λ c κs. search needs)
+    (λ c κs. search needs)
+    (λ c. omega (arith, sized answerSizeOf 2 (c .before .match .keys4) refl (c .before .before .before .pre .0)))
+    (λ c. omega (arith, sized answerSizeOf 2 (c .before .before .match .keys4) refl (c .before .before .before .before .pre .0)))
+    (λ c κs. search needs)
     (λ c. omega (arith, sized answerSizeOf 2 (c .before .match .keys5) refl (c .before .before .before .pre .0)))
     (λ c. omega (arith, sized answerSizeOf 2 (c .before .before .match .keys5) refl (c .before .before .before .before .pre .0)))
     (λ c. omega (arith, sized answerSizeOf 1 (c .before .match .keys6) refl (c .before .before .before .pre .0)))
@@ -52,22 +65,33 @@ answer-of-spec =
     (λ c. omega (arith, sized answerSizeOf 3 (c .before .before .match .keys7) refl (c .before .before .before .before .pre .0)))
     (λ c. omega (arith, sized answerSizeOf 3 (c .before .before .before .match .keys7) refl (c .before .before .before .before .before .pre .0)))
     (λ c. omega (arith, sized answerSizeOf 1 (c .before .match .keys8) refl (c .before .before .before .pre .0)))
-    (λ c κs. omega (arith, sized answerSizeOf 6 (c .match .keys9) refl (c .before .before .pre .0)))
-    (λ c κs. omega (arith, sized answerSizeOf 6 (c .before .match .keys9) refl (c .before .before .before .pre .0)))
-    (λ c κs. omega (arith, sized answerSizeOf 6 (c .before .before .match .keys9) refl (c .before .before .before .before .pre .0)))
+    (λ c. omega (arith, sized answerSizeOf 6 (c .before .match .keys9) refl (c .before .before .before .pre .0)))
+    (λ c. omega (arith, sized answerSizeOf 6 (c .before .before .match .keys9) refl (c .before .before .before .before .pre .0)))
+    (λ c κs. search needs)
+    (λ c. omega (arith, sized answerSizeOf 6 (c .before .before .before .before .match .keys9) refl (c .before .before .before .before .before .before .pre .0)))
+    (λ c. omega (arith, sized answerSizeOf 6 (c .before .before .before .before .before .match .keys9) refl (c .before .before .before .before .before .before .before .pre .0)))
+    (λ c κs. search needs)
+    (λ c. omega (arith, sized answerSizeOf 6 (c .before .before .before .before .before .before .before .match .keys9) refl (c .before .before .before .before .before .before .before .before .before .pre .0)))
+    (λ c. omega (arith, sized answerSizeOf 6 (c .before .before .before .before .before .before .before .before .match .keys9) refl (c .before .before .before .before .before .before .before .before .before .before .pre .0)))
+    (λ c κs. search needs)
     (λ c. omega (arith, c .before .before .before .pre .1))
     (λ c. keyed answerLayoutOf _ _ (c .before .before .match .keys1) (spread 2 _ (sized answerSizeOf 2 (c .before .before .match .keys1) refl (c .before .before .before .before .pre .0))))
     (λ c. keyed answerLayoutOf _ _ (c .before .before .match .keys2) (spread 2 _ (sized answerSizeOf 2 (c .before .before .match .keys2) refl (c .before .before .before .before .pre .0))))
-    (λ c. keyed answerLayoutOf _ _ (c .before .match .keys3) (ap (λ (w : ℕ). w ∷ []) (c .long-at .ensures)))
-    (λ c. keyed answerLayoutOf _ _ (c .before .match .keys4) (ap (λ (w : ℕ). w ∷ []) (c .word-at .ensures)))
+    (λ c.
+    keyed answerLayoutOf _ _ (c .before .before .before .before .before .before .before .match .keys3)
+    (ap (λ (w : ℕ). w ∷ []) (joined (c .long .ensures) (c .before .before .before .before .word .ensures) (c .before .word2 .ensures))))
+    (λ c. keyed answerLayoutOf _ _ (c .before .before .before .match .keys4) (ap (λ (w : ℕ). w ∷ []) (c .word3 .ensures)))
     (λ c. keyed answerLayoutOf _ _ (c .before .before .match .keys5) (spread 2 _ (sized answerSizeOf 2 (c .before .before .match .keys5) refl (c .before .before .before .before .pre .0))))
     (λ c. keyed answerLayoutOf _ _ (c .before .match .keys6) (spread 1 _ (sized answerSizeOf 1 (c .before .match .keys6) refl (c .before .before .before .pre .0))))
     (λ c. keyed answerLayoutOf _ _ (c .before .before .before .match .keys7) (spread 3 _ (sized answerSizeOf 3 (c .before .before .before .match .keys7) refl (c .before .before .before .before .before .pre .0))))
     (λ c. keyed answerLayoutOf _ _ (c .before .match .keys8) (spread 1 _ (sized answerSizeOf 1 (c .before .match .keys8) refl (c .before .before .before .pre .0))))
     (λ c.
-    let b = c .before .before in
-    keyed answerLayoutOf _ _ (b .before .match .keys9)
-    (pwm-six (b .before .before .before .args .p .now) (b .pwm-at .result) (c .before .pwm-at2 .result) (c .pwm-at3 .result) (b .pwm-at .ensures) (c .before .pwm-at2 .ensures) (c .pwm-at3 .ensures)))
+    let m = c .before .before .before .before .before .before .before .before .before in
+    keyed answerLayoutOf _ _ (m .match .keys9)
+    (pwm-six (m .before .before .args .p .now) (c .before .before .before .before .before .before .pwm-from .result) (c .before .before .before .pwm-from2 .result) (c .pwm-from3 .result)
+    (c .before .before .before .before .before .before .pwm-from .ensures)
+    (c .before .before .before .pwm-from2 .ensures)
+    (c .pwm-from3 .ensures)))
     (λ c.
     keyed answerLayoutOf _ _ (status (c .before))
     (spread 1 _ (sized answerSizeOf 1 (status (c .before)) refl (c .before .before .before .pre .0)))))

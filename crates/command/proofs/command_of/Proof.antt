@@ -5,6 +5,7 @@ use mathlib.Core.Bool.{Bool, true, false}
 use mathlib.Core.List.{List, [], _∷_}
 use Prim.Native.Nat.{ℕ}
 use native.Mathlib.Omega.{arith}
+use borrow.Author.Needs.{needs}
 use Rattle.telegram.specs.Numbers.{Outcome, refused, done}
 use Rattle.table.specs.Table.{rowOf, payloadSizeOf}
 use Rattle.command.specs.Fields.{layoutOf}
@@ -31,14 +32,22 @@ unfolding layoutOf rowOf
 command-of-spec =
     tie.close
     (tie.spec
-    (λ c κs. omega (arith, sized payloadSizeOf 2 (c .match .keys9) refl (c .before .before .pre)))
+    (λ c. omega (arith, sized payloadSizeOf 2 (c .before .match .keys9) refl (c .before .before .before .pre)))
+    (λ c. omega (arith, sized payloadSizeOf 2 (c .before .before .match .keys9) refl (c .before .before .before .before .pre)))
+    (λ c κs. search needs)
     (λ c. omega (arith, sized payloadSizeOf 3 (c .before .match .keys14) refl (c .before .before .before .pre)))
     (λ c. omega (arith, sized payloadSizeOf 3 (c .before .before .match .keys14) refl (c .before .before .before .before .pre)))
     (λ c. omega (arith, sized payloadSizeOf 3 (c .before .before .before .match .keys14) refl (c .before .before .before .before .before .pre)))
     (λ c. omega (arith, sized payloadSizeOf 1 (c .before .match .keys16) refl (c .before .before .before .pre)))
-    (λ c κs. omega (arith, sized payloadSizeOf 6 (c .match .keys18) refl (c .before .before .pre)))
-    (λ c κs. omega (arith, sized payloadSizeOf 6 (c .before .match .keys18) refl (c .before .before .before .pre)))
-    (λ c κs. omega (arith, sized payloadSizeOf 6 (c .before .before .match .keys18) refl (c .before .before .before .before .pre)))
+    (λ c. omega (arith, sized payloadSizeOf 6 (c .before .match .keys18) refl (c .before .before .before .pre)))
+    (λ c. omega (arith, sized payloadSizeOf 6 (c .before .before .match .keys18) refl (c .before .before .before .before .pre)))
+    (λ c κs. search needs)
+    (λ c. omega (arith, sized payloadSizeOf 6 (c .before .before .before .before .match .keys18) refl (c .before .before .before .before .before .before .pre)))
+    (λ c. omega (arith, sized payloadSizeOf 6 (c .before .before .before .before .before .match .keys18) refl (c .before .before .before .before .before .before .before .pre)))
+    (λ c κs. search needs)
+    (λ c. omega (arith, sized payloadSizeOf 6 (c .before .before .before .before .before .before .before .match .keys18) refl (c .before .before .before .before .before .before .before .before .before .pre)))
+    (λ c. omega (arith, sized payloadSizeOf 6 (c .before .before .before .before .before .before .before .before .match .keys18) refl (c .before .before .before .before .before .before .before .before .before .before .pre)))
+    (λ c κs. search needs)
     (λ c. keyed layoutOf _ [] (c .match .keys1) (spread 0 _ (sized payloadSizeOf 0 (c .match .keys1) refl (c .before .before .pre))))
     (λ c. keyed layoutOf _ [] (c .match .keys2) (spread 0 _ (sized payloadSizeOf 0 (c .match .keys2) refl (c .before .before .pre))))
     (λ c. keyed layoutOf _ [] (c .match .keys3) (spread 0 _ (sized payloadSizeOf 0 (c .match .keys3) refl (c .before .before .pre))))
@@ -47,7 +56,7 @@ command-of-spec =
     (λ c. keyed layoutOf _ [] (c .match .keys6) (spread 0 _ (sized payloadSizeOf 0 (c .match .keys6) refl (c .before .before .pre))))
     (λ c. keyed layoutOf _ [] (c .match .keys7) (spread 0 _ (sized payloadSizeOf 0 (c .match .keys7) refl (c .before .before .pre))))
     (λ c. keyed layoutOf _ [] (c .match .keys8) (spread 0 _ (sized payloadSizeOf 0 (c .match .keys8) refl (c .before .before .pre))))
-    (λ c. keyed layoutOf _ _ (c .before .match .keys9) (ap (λ (w : ℕ). w ∷ []) (c .word-at .ensures)))
+    (λ c. keyed layoutOf _ _ (c .before .before .before .match .keys9) (ap (λ (w : ℕ). w ∷ []) (c .word .ensures)))
     (λ c. keyed layoutOf _ [] (c .match .keys10) (spread 0 _ (sized payloadSizeOf 0 (c .match .keys10) refl (c .before .before .pre))))
     (λ c. keyed layoutOf _ [] (c .match .keys11) (spread 0 _ (sized payloadSizeOf 0 (c .match .keys11) refl (c .before .before .pre))))
     (λ c. keyed layoutOf _ [] (c .match .keys12) (spread 0 _ (sized payloadSizeOf 0 (c .match .keys12) refl (c .before .before .pre))))
@@ -62,7 +71,10 @@ command-of-spec =
     (spread 1 _ (sized payloadSizeOf 1 (c .before .match .keys16) refl (c .before .before .before .pre))))
     (λ c. keyed layoutOf _ [] (c .match .keys17) (spread 0 _ (sized payloadSizeOf 0 (c .match .keys17) refl (c .before .before .pre))))
     (λ c.
-    let b = c .before .before in
-    keyed layoutOf _ _ (b .before .match .keys18)
-    (pwm-six (b .before .before .before .args .p .now) (b .pwm-at .result) (c .before .pwm-at2 .result) (c .pwm-at3 .result) (b .pwm-at .ensures) (c .before .pwm-at2 .ensures) (c .pwm-at3 .ensures)))
+    let m = c .before .before .before .before .before .before .before .before .before in
+    keyed layoutOf _ _ (m .match .keys18)
+    (pwm-six (m .before .before .args .p .now) (c .before .before .before .before .before .before .pwm-from .result) (c .before .before .before .pwm-from2 .result) (c .pwm-from3 .result)
+    (c .before .before .before .before .before .before .pwm-from .ensures)
+    (c .before .before .before .pwm-from2 .ensures)
+    (c .pwm-from3 .ensures)))
     (λ c. keyed layoutOf _ [] (reset c) (spread 0 _ (sized payloadSizeOf 0 (reset c) refl (c .before .before .pre)))))
