@@ -7,7 +7,7 @@ use lib.ListN.{length}
 use Rattle.telegram.specs.Numbers.{done}
 use Rattle.telegram.specs.Telegram.{Bytes, reading, building, payloadIn}
 use Rattle.telegram.specs.declared.Telegram.{Telegram}
-use Rattle.telegram.proofs.Building.{built}
+use Rattle.telegram.proofs.Building.{built, listed-le}
 use Rattle.telegram.proofs.RoundTrip.{read-builds}
 use Rattle.answer.specs.Answers.{Reply, answerLayoutOf, answerPayloadOf, dissectingAnswer}
 use Rattle.command.proofs.Layouts.{Wide, payload-back}
@@ -28,7 +28,8 @@ answered-builds s a y e room h =
     let lp : length p ≡ t .size = payload-length s t r in
     let b : building (t .address .0) n p room ≡ done s = read-builds s t y r room h in
     let v = built (t .address .0) n p room b .0 in
-    let w : Wide (answerLayoutOf n) p = answer-wide n (v .command) p (simp (g .known) (ap done (sym (g .size) ∙ sym lp))) in
+    let w : Wide (answerLayoutOf n) p =
+    answer-wide n (v .command) p (listed-le (length p) (v .size)) (simp (g .known) (ap done (sym (g .size) ∙ sym lp))) in
     subst (λ (x : Reply). building (x .address) (x .message .number) (answerPayloadOf (x .message)) room ≡ done s) (g .reply)
     (ap (λ (l : List ℕ). building (t .address .0) n l room) (payload-back (answerLayoutOf n) p (payload-bytes s (t .size) y lp) w)
     ∙ b)

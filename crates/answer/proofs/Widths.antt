@@ -1,20 +1,29 @@
 -- How many bytes answers have: those of the table are as many as the layout wants, and none has more than 8.
 -- Assumes nothing.
-use mathlib.Core.Path.{_≡_}
+use mathlib.Core.Path.{_≡_, _∙_, refl, ap}
+use mathlib.Core.Bool.{Bool, false}
 use mathlib.Core.List.{List}
 use Prim.Native.Nat.{ℕ, _≤_}
-use lib.Dec.{lit≤}
+use lib.Dec.{eqb, lit≤}
 use lib.ListN.{length}
-use Rattle.telegram.specs.Numbers.{done}
+use borrow.Author.Tests.{eq-eqb}
+use Rattle.telegram.specs.Numbers.{Outcome, refused, done}
 use Rattle.table.specs.Table.{rowOf, answerSizeOf}
 use Rattle.answer.specs.Answers.{answerMessageOf, answerLayoutOf, answerPayloadOf}
 use Rattle.answer.specs.declared.Answer.{Answer}
 use Rattle.answer.specs.declared.Answer.the-variants.{InitBidir, InitLoop, Identity, Mask, Status, TempStatus, Temp, Thresholds, Setup, Words}
-use Rattle.command.proofs.Layouts.{Wide, is-size, agrees, wide}
+use Rattle.command.proofs.Layouts.{Wide, as-wide, wide}
 
-pub answer-wide : (n : ℕ) → n ≤ 127 → (p : List ℕ) → answerSizeOf n ≡ done (length p) → Wide (answerLayoutOf n) p
-unfolding agrees is-size answerLayoutOf rowOf
-answer-wide = wide answerLayoutOf answerSizeOf tt
+-- The table has this many bytes for an answer.
+has : Outcome ℕ → ℕ → Bool
+has (refused n) k = false
+has (done x) k = eqb k x
+
+pub answer-wide : (n : ℕ) → n ≤ 127 → (p : List ℕ) → length p ≤ 8 → answerSizeOf n ≡ done (length p) → Wide (answerLayoutOf n) p
+unfolding has as-wide answerLayoutOf rowOf
+answer-wide n h p l e =
+    wide answerLayoutOf (λ (m k : ℕ). has (answerSizeOf m) k) tt n h p l
+    (ap (λ (o : Outcome ℕ). has o (length p)) e ∙ eq-eqb (length p) (length p) refl)
 
 -- No answer is longer than 8 bytes.
 pub answer-short : (a : Answer) → length (answerPayloadOf (answerMessageOf a)) ≤ 8

@@ -1,7 +1,7 @@
 -- Fields and payload bytes, there and back, for every layout.
 -- Assumes nothing.
 use mathlib.Core.Path.{_≡_, _∙_, refl, sym, ap, ap₂, subst}
-use mathlib.Core.Bool.{Bool, true}
+use mathlib.Core.Bool.{Bool, true, not, _||_}
 use mathlib.Core.List.{List, [], _∷_, _++_}
 use Prim.Native.Nat.{ℕ, zero, suc, _+_, _*_, _/_, _%_, _≤_, _<_}
 use native.Mathlib.Omega.{arith}
@@ -9,9 +9,8 @@ use lib.Dec.{T, leb, eqb, eqb→eq}
 use lib.ListN.{length, getD}
 use borrow.Author.Tests.{le-leb}
 use Rattle.checksum.proofs.Below.{below, at}
-use Rattle.telegram.specs.Numbers.{Outcome, refused, done}
 use Rattle.telegram.specs.Telegram.{Bytes}
-use Rattle.table.specs.Table.{rowOf, payloadSizeOf}
+use Rattle.table.specs.Table.{rowOf, sizeRight}
 use Rattle.command.specs.Fields.{Layout, octets, word, long, pwm, wordAt, wordBytes, pwmBytes, fieldsBy, payloadBy, dutiesInRange, modeOf, pwmFields, layoutOf}
 use Rattle.command.specs.Commands.{numbered}
 use Rattle.command.specs.declared.Pwm.{Pwm}
@@ -40,34 +39,34 @@ Wide word p = length p ≡ 2
 Wide long p = length p ≡ 4
 Wide pwm p = length p ≡ 6
 
--- The size that the table has for a number is the width that its layout wants.
-unfoldable pub is-size : ℕ → Outcome ℕ → Bool
-is-size k (refused n) = true
-is-size k (done x) = eqb x k
+-- A payload of k bytes is as wide as a layout wants.
+unfoldable pub as-wide : Layout → ℕ → Bool
+as-wide octets k = true
+as-wide word k = eqb k 2
+as-wide long k = eqb k 4
+as-wide pwm k = eqb k 6
 
-unfoldable pub agrees : Layout → Outcome ℕ → Bool
-agrees octets o = true
-agrees word o = is-size 2 o
-agrees long o = is-size 4 o
-agrees pwm o = is-size 6 o
-
-wide-by : (l : Layout) (p : List ℕ) → T (agrees l (done (length p))) → Wide l p
-unfolding agrees is-size
+wide-by : (l : Layout) (p : List ℕ) → T (as-wide l (length p)) → Wide l p
+unfolding as-wide
 wide-by octets p t = tt
 wide-by word p t = eqb→eq (length p) 2 t
 wide-by long p t = eqb→eq (length p) 4 t
 wide-by pwm p t = eqb→eq (length p) 6 t
 
--- So a payload of the table's size is as wide as its layout wants: one test at each number of seven bits.
-pub wide : (layout : ℕ → Layout) (size : ℕ → Outcome ℕ) → T (below (λ (m : ℕ). agrees (layout m) (size m)) 128)
-    → (n : ℕ) → n ≤ 127 → (p : List ℕ) → size n ≡ done (length p) → Wide (layout n) p
-wide layout size t n h p e =
+-- So a payload whose size is right for its number is as wide as its layout wants: one test at each number of seven bits and each
+-- size up to 8.
+pub wide : (layout : ℕ → Layout) (right : ℕ → ℕ → Bool)
+    → T (below (λ (m : ℕ). below (λ (k : ℕ). not (right m k) || as-wide (layout m) k) 9) 128)
+    → (n : ℕ) → n ≤ 127 → (p : List ℕ) → length p ≤ 8 → right n (length p) ≡ true → Wide (layout n) p
+wide layout right t n h p l e =
+    let sizes : ℕ → ℕ → Bool = λ (m k : ℕ). not (right m k) || as-wide (layout m) k in
     wide-by (layout n) p
-    (subst (λ (o : Outcome ℕ). T (agrees (layout n) o)) e (at (λ (m : ℕ). agrees (layout m) (size m)) 128 t n (omega arith)))
+    (subst (λ (b : Bool). T (not b || as-wide (layout n) (length p))) e
+    (at (sizes n) 9 (at (λ (m : ℕ). below (sizes m) 9) 128 t n (omega arith)) (length p) (omega arith)))
 
-pub command-wide : (n : ℕ) → n ≤ 127 → (p : List ℕ) → payloadSizeOf n ≡ done (length p) → Wide (layoutOf n) p
-unfolding agrees is-size layoutOf rowOf
-command-wide = wide layoutOf payloadSizeOf tt
+pub command-wide : (n : ℕ) → n ≤ 127 → (p : List ℕ) → length p ≤ 8 → sizeRight n (length p) ≡ true → Wide (layoutOf n) p
+unfolding as-wide layoutOf rowOf
+command-wide = wide layoutOf sizeRight tt
 
 word-lt : (p : List ℕ) → Bytes p → (i : ℕ) → wordAt p i < 65536
 word-lt p y i = omega (arith, y i, y (i + 1))

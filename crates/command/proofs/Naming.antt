@@ -7,19 +7,19 @@ use mathlib.Core.List.{List}
 use Prim.Native.Nat.{ℕ, _+_, _-_, _≤_}
 use native.Mathlib.Nat.{add-sub-cancel-left}
 use lib.ListN.{length, take, drop}
-use borrow.Author.Tests.{eq-eqb, eqb-true, not-false}
+use borrow.Author.Tests.{not-false}
 use Rattle.telegram.specs.Numbers.{refused, done, after}
 use Rattle.telegram.specs.Telegram.{reading, payloadIn}
 use Rattle.telegram.specs.declared.Telegram.{Telegram}
 use Rattle.telegram.proofs.Outcomes.{done-one, passed, went-on}
 use Rattle.table.specs.Casts.{destination}
-use Rattle.table.specs.Table.{rowOf, castListed, payloadFits, payloadSizeOf}
+use Rattle.table.specs.Table.{rowOf, castListed, payloadFits, sizeRight, payloadSizeOf}
 use Rattle.table.specs.declared.Row.{Row}
 use Rattle.table.specs.declared.Cast.{Cast}
 use Rattle.command.specs.Fields.{layoutOf, fieldsBy}
 use Rattle.command.specs.Commands.{Message, numbered, Sent, composing, headingAs, fitting, naming, dissecting}
 use Rattle.command.specs.declared.Heading.the-variants.{To}
-use Rattle.table.proofs.Table.{part-payload}
+use Rattle.table.proofs.Table.{part-right, right-payload}
 
 module _ (s : List ℕ) (t : Telegram) where
   pub name-unknown : {n : ℕ} → rowOf (t .command) ≡ refused n → refused n ≡ naming s t
@@ -52,7 +52,7 @@ pub record Named (s : List ℕ) (t : Telegram) (m : Sent) : Type 0 where
   pub known : rowOf (t .command) ≡ done row
   pub to : destination (t .address .0) ≡ done (m .cast)
   pub listed : castListed (row .casts) (m .cast) ≡ true
-  pub size : t .size ≡ row .payload
+  pub fits : payloadFits row (t .size) ≡ true
   pub message : m .message ≡ numbered (t .command) (fieldsBy (layoutOf (t .command)) (payloadIn s (t .size)))
 
 pub named : (s : List ℕ) (t : Telegram) (m : Sent) → naming s t ≡ done m → Named s t m
@@ -71,16 +71,19 @@ named s t m e =
       known = g .1 .0;
       to = d .1 .0 ∙ ap done qk;
       listed = subst (λ (x : Cast). castListed (r .casts) x ≡ true) qk (not-false _ (p₁ .0));
-      size = eqb-true (t .size) (r .payload) (not-false _ (p₂ .0));
+      fits = not-false _ (p₂ .0);
       message = sym (ap (λ (x : Sent). x .message) q);
     }
 
 -- The part of a telegram's bytes that is the payload of what its heading names.
 module _ (s : List ℕ) (t : Telegram) (cast : Cast) (e : headingAs s t (To cast) ≡ naming s t) (h : 3 + t .size ≤ length s) where
-  pub headed-payload : payloadSizeOf (t .command) ≡ done (length (take (3 + t .size - 3) (drop 3 s)))
-  headed-payload =
+  pub headed-size : sizeRight (t .command) (length (take (3 + t .size - 3) (drop 3 s))) ≡ true
+  headed-size =
       let n = named s t _ (sym e) in
-      part-payload (t .command) (n .row) s (t .size) (n .known) (eq-eqb (t .size) (n .row .payload) (n .size)) h
+      part-right (t .command) (n .row) s (t .size) (n .known) (n .fits) h
+
+  pub headed-payload : payloadSizeOf (t .command) ≡ done (length (take (3 + t .size - 3) (drop 3 s)))
+  headed-payload = right-payload (t .command) _ headed-size
 
   pub headed-message : {m : Message} → m ≡ numbered (t .command) (fieldsBy (layoutOf (t .command)) (take (3 + t .size - 3) (drop 3 s)))
       → done (record { message = m; cast = cast }) ≡ naming s t

@@ -9,15 +9,15 @@ use native.Mathlib.Omega.{arith}
 use lib.Dec.{leb, ltb}
 use lib.ListN.{length, getD, drop, length-drop, List·getD-eq-default}
 use lib.Seq.{getD-take, getD-drop, length-take-le}
-use borrow.Author.Tests.{ltb-true, ltb-false, leb-true, eq-eqb}
+use borrow.Author.Tests.{ltb-true, ltb-false, leb-true}
 use Rattle.telegram.specs.Numbers.{Outcome, refused, done}
 use Rattle.telegram.specs.Telegram.{Bytes, reading, building, listed, payloadIn}
 use Rattle.telegram.specs.declared.Telegram.{Telegram}
 use Rattle.telegram.proofs.Reading.{accepted-count}
-use Rattle.telegram.proofs.Building.{Sendable, build-done, built}
+use Rattle.telegram.proofs.Building.{Sendable, build-done, built, listed-le}
 use Rattle.telegram.proofs.RoundTrip.{read-builds, built-reads}
 use Rattle.table.specs.Casts.{addressOf, castInRange}
-use Rattle.table.specs.Table.{rowOf, castListed, listsCast, payloadSizeOf}
+use Rattle.table.specs.Table.{rowOf, castListed, listsCast, payloadFits, fitsRow}
 use Rattle.table.specs.declared.Row.{Row}
 use Rattle.table.specs.declared.Cast.{Cast}
 use Rattle.table.specs.declared.Cast.the-variants.{One}
@@ -26,7 +26,7 @@ use Rattle.command.specs.Commands.{Message, numbered, messageOf, Sent, p
 use Rattle.command.specs.declared.Command.{Command}
 use Rattle.telegram.specs.declared.Address.{Address}
 use Rattle.table.proofs.Both.{and-left, and-right}
-use Rattle.table.proofs.Table.{sized}
+use Rattle.table.proofs.Table.{row-right}
 use Rattle.table.proofs.Destinations.{reached, cast-back, address-le}
 use Rattle.command.proofs.Layouts.{Wide, command-wide, payload-back, duties-back}
 use Rattle.command.proofs.Naming.{Named, named, name-done, dissected, dissect-named}
@@ -59,7 +59,9 @@ dissected-builds s m y e room h =
     let lp : length p ≡ t .size = payload-length s t r in
     let b : building (t .address .0) n p room ≡ done s = read-builds s t y r room h in
     let v = built (t .address .0) n p room b .0 in
-    let w : Wide (layoutOf n) p = command-wide n (v .command) p (simp (g .known) (ap done (sym (g .size) ∙ sym lp))) in
+    let fits : payloadFits (g .row) (length p) ≡ true = subst (λ (k : ℕ). payloadFits (g .row) k ≡ true) (sym lp) (g .fits) in
+    let w : Wide (layoutOf n) p =
+    command-wide n (v .command) p (listed-le (length p) (v .size)) (row-right n (length p) (g .row) (g .known) fits) in
     let ep : p ≡ payloadOf x = sym (payload-back (layoutOf n) p (payload-bytes s (t .size) y lp) w) in
     let q = reached (t .address .0) (m .cast) (g .to) in
     let f : Fit x (m .cast) =
@@ -89,10 +91,10 @@ built-dissects c cast room s e =
     let r = built-reads (addressOf cast) n p (4 + length p) s b in
     let w = row-of (rowOf n) cast (f .lists) in
     let t : Telegram = record { address = record { 0 = addressOf cast }; command = n; size = length p } in
-    let es : length p ≡ w .0 .payload = sized payloadSizeOf (w .0 .payload) refl (simp (w .1 .0)) (z .size) in
+    let fits : payloadFits (w .0) (length p) ≡ true = sym (ap (λ (o : Outcome Row). fitsRow o (length p)) (w .1 .0)) ∙ z .size in
     sym (dissect-named s (r .0))
     ∙ sym
-    (name-done s t (w .0) (w .1 .0) cast (cast-back cast (f .range)) (w .1 .1) (eq-eqb _ _ es) m
+    (name-done s t (w .0) (w .1 .0) cast (cast-back cast (f .range)) (w .1 .1) fits m
     (ap (numbered n) (sym (ap (fieldsBy (layoutOf n)) (r .1) ∙ z .back (f .duties)))))
 
 -- What is accepted for one lamp has an address 001 to 3EF.

@@ -10,9 +10,8 @@ use native.Mathlib.Nat.{div-add-mod'}
 use lib.Dec.{eqb, leb, lit≤}
 use lib.ListN.{length, getD}
 use borrow.Author.Tests.{leb-true}
-use Rattle.telegram.specs.Numbers.{done}
 use Rattle.telegram.specs.Telegram.{listed}
-use Rattle.table.specs.Table.{rowOf, payloadSizeOf}
+use Rattle.table.specs.Table.{rowOf, sizeRight}
 use Rattle.command.specs.Fields.{pwm, layoutOf, fieldsBy, payloadBy, dutiesInRange, modeOf, pwmFields}
 use Rattle.command.specs.Commands.{Message, messageOf, payloadOf}
 use Rattle.command.specs.declared.Pwm.{Pwm}
@@ -57,7 +56,7 @@ mode-back false = refl
 pub record Sound (c : Command) (m : Message) : Type 0 where
   pub number : m .number ≤ 127
   pub length-listed : listed (length (payloadOf m)) ≡ true
-  pub size : payloadSizeOf (m .number) ≡ done (length (payloadOf m))
+  pub size : sizeRight (m .number) (length (payloadOf m)) ≡ true
   pub back : dutiesInRange (layoutOf (m .number)) (m .fields) ≡ true → fieldsBy (layoutOf (m .number)) (payloadOf m) ≡ m .fields
   pub same : command-in m ≡ c
 

@@ -16,11 +16,12 @@ use telegram::Read;
 use telegram::Refusal;
 use telegram::Telegram;
 ghost use mathlib.Core.Path.{_≡_};
+ghost use mathlib.Core.Bool.{true};
 ghost use Prim.Native.Nat.{ℕ, _+_, _≤_};
 ghost use mathlib.Core.List.{List};
 ghost use lib.ListN.{length};
-ghost use Rattle.telegram.specs.Numbers.{done, builtAs, counted, leaves};
-ghost use Rattle.table.specs.Table.{payloadSizeOf};
+ghost use Rattle.telegram.specs.Numbers.{builtAs, counted, leaves};
+ghost use Rattle.table.specs.Table.{sizeRight};
 ghost use Rattle.command.specs.Fields.{pwmFields, layoutOf, fieldsBy};
 ghost use Rattle.command.specs.Commands.{numbered, messageOf, dissectionAs, composedAs, composing, naming, dissecting, buildingCommand, laidOut, headingAs};
 
@@ -87,7 +88,7 @@ pub struct Parts {
 
 // The command of a number of the table, with the fields in its payload.
 fn command_of(n: u8, p: &[u8]) -> Command
-    requires { ⌜ payloadSizeOf n ≡ done (length (now p)) ⌝ }
+    requires { ⌜ sizeRight n (length (now p)) ≡ true ⌝ }
     ensures { λ r. ⌜ messageOf r ≡ numbered n (fieldsBy (layoutOf n) (now (p .entry))) ⌝ }
 {
     match n {

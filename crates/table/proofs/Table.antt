@@ -1,6 +1,6 @@
 -- The table of commands: its rows by ranges, and the numbers that it has not.
 -- Assumes nothing.
-use mathlib.Core.Path.{_≡_, sym, ap, _∙_, subst}
+use mathlib.Core.Path.{_≡_, refl, sym, ap, _∙_, subst}
 use mathlib.Core.Bool.{Bool, true, false, _||_}
 use mathlib.Core.List.{List, [], _∷_}
 use Prim.Native.Nat.{ℕ, _+_, _-_, _≤_, _<_}
@@ -11,7 +11,7 @@ use borrow.Author.Tests.{le-leb, lt-leb, ne-eqb, eqb-true}
 use Rattle.checksum.proofs.Below.{below}
 use Rattle.telegram.specs.Numbers.{Outcome, refused, done}
 use Rattle.telegram.proofs.Outcomes.{done-one}
-use Rattle.table.specs.Table.{row, rowOf, payloadFits, payloadSizeOf, answerSizeOf}
+use Rattle.table.specs.Table.{row, rowOf, payloadFits, fitsRow, sizeRight, payloadSizeOf, answerSizeOf}
 use Rattle.table.specs.declared.Casts.the-variants.{All, First}
 use Rattle.table.specs.declared.Row.{Row}
 use Rattle.table.proofs.Keys.{member, NoneOf, elsewhere}
@@ -81,22 +81,47 @@ row-high n h =
 pub sized : {n k x : ℕ} (size : ℕ → Outcome ℕ) (j : ℕ) → n ≡ k → size k ≡ done j → size n ≡ done x → x ≡ j
 sized {n} {k} {x} size j e s h = sym (done-one (sym s ∙ sym (ap size e) ∙ h))
 
--- A number that a list of numbers has not, and that a test does not exclude by its size, is the only one left: one test at each byte.
-pub only-left : (excluded : Outcome ℕ → Bool) (size : ℕ → Outcome ℕ) (ks : List ℕ) (k : ℕ)
-    → T (below (λ (m : ℕ). member m ks || (excluded (size m) || eqb m k)) 256)
-    → (n : ℕ) → n < 256 → NoneOf ks n → excluded (size n) ≡ false → n ≡ k
-only-left excluded size ks k t n h no-key e =
+-- The only payload size that is right for n, where n is a number k with one size.
+pub right-size : {n k x : ℕ} (j : ℕ) → n ≡ k → sizeRight k ≡ (λ (y : ℕ). eqb y j) → sizeRight n x ≡ true → x ≡ j
+right-size {n} {k} {x} j e s h =
+    eqb-true x j (sym (ap (λ (f : ℕ → Bool). f x) s) ∙ sym (ap (λ (m : ℕ). sizeRight m x) e) ∙ h)
+
+-- A size is right for a number only in a row.
+in-row : (o : Outcome Row) (x : ℕ) → fitsRow o x ≡ true → (r : Row) × ((o ≡ done r) × (payloadFits r x ≡ true))
+in-row (refused n) x h = absurd (let z : _≡_ {A = ℕ} 0 1 = cc in omega arith)
+in-row (done r) x h = (r, (refl, h))
+
+pub right-row : (n x : ℕ) → sizeRight n x ≡ true → (r : Row) × ((rowOf n ≡ done r) × (payloadFits r x ≡ true))
+right-row n x h = in-row (rowOf n) x h
+
+-- A size that is right is the one that the row has for its payload.
+pub right-payload : (n x : ℕ) → sizeRight n x ≡ true → payloadSizeOf n ≡ done x
+right-payload n x h =
+    let g = right-row n x h in
+    simp (g .1 .0) (ap done (sym (eqb-true x (g .0 .payload) (g .1 .1))))
+
+-- The size that a number's row takes is right for the number.
+pub row-right : (n x : ℕ) (r : Row) → rowOf n ≡ done r → payloadFits r x ≡ true → sizeRight n x ≡ true
+row-right n x r e f = ap (λ (o : Outcome Row). fitsRow o x) e ∙ f
+
+-- A number that a list of numbers has not, and that a test of what the table has for it does not exclude, is the only one left:
+-- one test at each byte.
+pub only-left : {A : Type 0} (excluded : Outcome A → Bool) (entry : ℕ → Outcome A) (ks : List ℕ) (k : ℕ)
+    → T (below (λ (m : ℕ). member m ks || (excluded (entry m) || eqb m k)) 256)
+    → (n : ℕ) → n < 256 → NoneOf ks n → excluded (entry n) ≡ false → n ≡ k
+only-left excluded entry ks k t n h no-key e =
     eqb→eq n k
-    (T-or (excluded (size n)) (eqb n k) e (elsewhere (λ (m : ℕ). excluded (size m) || eqb m k) ks t n h no-key))
+    (T-or (excluded (entry n)) (eqb n k) e (elsewhere (λ (m : ℕ). excluded (entry m) || eqb m k) ks t n h no-key))
 
 -- The part of a slice behind its first three bytes that is lent has as many bytes as were asked for.
 part-length : (s : List ℕ) (k j : ℕ) → k ≡ j → 3 + k ≤ length s → j ≡ length (take (3 + k - 3) (drop 3 s))
 part-length s k j e h = simp (length-take, length-drop) (omega arith)
 
--- Where the table has a row for a number, the part has the payload size, or the answer size, that the row says.
-pub part-payload : (n : ℕ) (r : Row) (s : List ℕ) (k : ℕ) → rowOf n ≡ done r → payloadFits r k ≡ true → 3 + k ≤ length s
-    → payloadSizeOf n ≡ done (length (take (3 + k - 3) (drop 3 s)))
-part-payload n r s k e f h = simp e (ap done (part-length s k (r .payload) (eqb-true k (r .payload) f) h))
+-- Where the table has a row for a number, the part has a payload size that is right, or the answer size that the row says.
+pub part-right : (n : ℕ) (r : Row) (s : List ℕ) (k : ℕ) → rowOf n ≡ done r → payloadFits r k ≡ true → 3 + k ≤ length s
+    → sizeRight n (length (take (3 + k - 3) (drop 3 s))) ≡ true
+part-right n r s k e f h =
+    row-right n _ r e (subst (λ (j : ℕ). payloadFits r j ≡ true) (part-length s k k refl h) f)
 
 pub part-answer : (n : ℕ) (r : Row) (s : List ℕ) (k : ℕ) → rowOf n ≡ done r → k ≡ r .answer → 3 + k ≤ length s
     → (r .answer ≡ 0 → ⊥)

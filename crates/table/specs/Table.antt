@@ -60,6 +60,15 @@ listsCast (refused n) cast = false
 abbrev pub payloadFits : Row → ℕ → Bool
 payloadFits r size = eqb size (r .payload)
 
+-- A row that the table has for a number takes the payload size; a number with no row takes none.
+abbrev pub fitsRow : Outcome Row → ℕ → Bool
+fitsRow (done r) size = payloadFits r size
+fitsRow (refused n) size = false
+
+-- The payload size is right for a number: the table has a row for it, whose command has a payload of that many bytes.
+abbrev pub sizeRight : ℕ → ℕ → Bool
+sizeRight n size = fitsRow (rowOf n) size
+
 -- How many bytes the table has for the payload of a number.
 abbrev pub payloadSizeOf : ℕ → Outcome ℕ
 payloadSizeOf n = after (rowOf n) (λ (r : Row). done (r .payload))

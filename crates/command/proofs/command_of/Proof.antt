@@ -5,11 +5,13 @@ use mathlib.Core.Bool.{Bool, true, false}
 use mathlib.Core.List.{List, [], _∷_}
 use Prim.Native.Nat.{ℕ}
 use native.Mathlib.Omega.{arith}
+use lib.ListN.{length}
 use borrow.Author.Needs.{needs}
 use Rattle.telegram.specs.Numbers.{Outcome, refused, done}
-use Rattle.table.specs.Table.{rowOf, payloadSizeOf}
+use Rattle.table.specs.Table.{rowOf}
+use Rattle.table.specs.declared.Row.{Row}
 use Rattle.command.specs.Fields.{layoutOf}
-use Rattle.table.proofs.Table.{sized, only-left}
+use Rattle.table.proofs.Table.{right-size, right-row, only-left}
 use Rattle.command.proofs.Layouts.{spread, keyed, pwm-six}
 use Rattle.command.proofs.command_of.Statement.{statement}
 use Rattle.command.proofs.command_of.Tie as tie
@@ -18,58 +20,60 @@ use Rattle.command.proofs.command_of.Tie as tie
 keys : List ℕ
 keys = 0x4F ∷ 0x4E ∷ 0x4D ∷ 0x4C ∷ 0x4B ∷ 0x4A ∷ 0x48 ∷ 0x42 ∷ 0x40 ∷ 0x0D ∷ 0x0C ∷ 0x07 ∷ 0x06 ∷ 0x05 ∷ 0x04 ∷ 0x03 ∷ 0x02 ∷ 0x01 ∷ []
 
-unknown : Outcome ℕ → Bool
+unknown : Outcome Row → Bool
 unknown (refused n) = true
-unknown (done x) = false
+unknown (done r) = false
 
 -- the only number left for `_` is 00
 reset : (c : tie.At-match-rest) → c .before .before .args .n ≡ 0
 unfolding keys unknown rowOf
-reset c = only-left unknown payloadSizeOf keys 0 tt (c .before .before .args .n) (omega arith) (c .match .rest) (ap unknown (c .before .before .pre))
+reset c =
+    let b = c .before .before in
+    only-left unknown rowOf keys 0 tt (b .args .n) (omega arith) (c .match .rest) (ap unknown (right-row (b .args .n) (length (b .args .p .now)) (b .pre) .1 .0))
 
 pub command-of-spec : {M : Type 1} → statement M
 unfolding layoutOf rowOf
 command-of-spec =
     tie.close
     (tie.spec
-    (λ c. omega (arith, sized payloadSizeOf 2 (c .before .match .keys9) refl (c .before .before .before .pre)))
-    (λ c. omega (arith, sized payloadSizeOf 2 (c .before .before .match .keys9) refl (c .before .before .before .before .pre)))
+    (λ c. omega (arith, right-size 2 (c .before .match .keys9) refl (c .before .before .before .pre)))
+    (λ c. omega (arith, right-size 2 (c .before .before .match .keys9) refl (c .before .before .before .before .pre)))
     (λ c κs. search needs)
-    (λ c. omega (arith, sized payloadSizeOf 3 (c .before .match .keys14) refl (c .before .before .before .pre)))
-    (λ c. omega (arith, sized payloadSizeOf 3 (c .before .before .match .keys14) refl (c .before .before .before .before .pre)))
-    (λ c. omega (arith, sized payloadSizeOf 3 (c .before .before .before .match .keys14) refl (c .before .before .before .before .before .pre)))
-    (λ c. omega (arith, sized payloadSizeOf 1 (c .before .match .keys16) refl (c .before .before .before .pre)))
-    (λ c. omega (arith, sized payloadSizeOf 6 (c .before .match .keys18) refl (c .before .before .before .pre)))
-    (λ c. omega (arith, sized payloadSizeOf 6 (c .before .before .match .keys18) refl (c .before .before .before .before .pre)))
+    (λ c. omega (arith, right-size 3 (c .before .match .keys14) refl (c .before .before .before .pre)))
+    (λ c. omega (arith, right-size 3 (c .before .before .match .keys14) refl (c .before .before .before .before .pre)))
+    (λ c. omega (arith, right-size 3 (c .before .before .before .match .keys14) refl (c .before .before .before .before .before .pre)))
+    (λ c. omega (arith, right-size 1 (c .before .match .keys16) refl (c .before .before .before .pre)))
+    (λ c. omega (arith, right-size 6 (c .before .match .keys18) refl (c .before .before .before .pre)))
+    (λ c. omega (arith, right-size 6 (c .before .before .match .keys18) refl (c .before .before .before .before .pre)))
     (λ c κs. search needs)
-    (λ c. omega (arith, sized payloadSizeOf 6 (c .before .before .before .before .match .keys18) refl (c .before .before .before .before .before .before .pre)))
-    (λ c. omega (arith, sized payloadSizeOf 6 (c .before .before .before .before .before .match .keys18) refl (c .before .before .before .before .before .before .before .pre)))
+    (λ c. omega (arith, right-size 6 (c .before .before .before .before .match .keys18) refl (c .before .before .before .before .before .before .pre)))
+    (λ c. omega (arith, right-size 6 (c .before .before .before .before .before .match .keys18) refl (c .before .before .before .before .before .before .before .pre)))
     (λ c κs. search needs)
-    (λ c. omega (arith, sized payloadSizeOf 6 (c .before .before .before .before .before .before .before .match .keys18) refl (c .before .before .before .before .before .before .before .before .before .pre)))
-    (λ c. omega (arith, sized payloadSizeOf 6 (c .before .before .before .before .before .before .before .before .match .keys18) refl (c .before .before .before .before .before .before .before .before .before .before .pre)))
+    (λ c. omega (arith, right-size 6 (c .before .before .before .before .before .before .before .match .keys18) refl (c .before .before .before .before .before .before .before .before .before .pre)))
+    (λ c. omega (arith, right-size 6 (c .before .before .before .before .before .before .before .before .match .keys18) refl (c .before .before .before .before .before .before .before .before .before .before .pre)))
     (λ c κs. search needs)
-    (λ c. keyed layoutOf _ [] (c .match .keys1) (spread 0 _ (sized payloadSizeOf 0 (c .match .keys1) refl (c .before .before .pre))))
-    (λ c. keyed layoutOf _ [] (c .match .keys2) (spread 0 _ (sized payloadSizeOf 0 (c .match .keys2) refl (c .before .before .pre))))
-    (λ c. keyed layoutOf _ [] (c .match .keys3) (spread 0 _ (sized payloadSizeOf 0 (c .match .keys3) refl (c .before .before .pre))))
-    (λ c. keyed layoutOf _ [] (c .match .keys4) (spread 0 _ (sized payloadSizeOf 0 (c .match .keys4) refl (c .before .before .pre))))
-    (λ c. keyed layoutOf _ [] (c .match .keys5) (spread 0 _ (sized payloadSizeOf 0 (c .match .keys5) refl (c .before .before .pre))))
-    (λ c. keyed layoutOf _ [] (c .match .keys6) (spread 0 _ (sized payloadSizeOf 0 (c .match .keys6) refl (c .before .before .pre))))
-    (λ c. keyed layoutOf _ [] (c .match .keys7) (spread 0 _ (sized payloadSizeOf 0 (c .match .keys7) refl (c .before .before .pre))))
-    (λ c. keyed layoutOf _ [] (c .match .keys8) (spread 0 _ (sized payloadSizeOf 0 (c .match .keys8) refl (c .before .before .pre))))
+    (λ c. keyed layoutOf _ [] (c .match .keys1) (spread 0 _ (right-size 0 (c .match .keys1) refl (c .before .before .pre))))
+    (λ c. keyed layoutOf _ [] (c .match .keys2) (spread 0 _ (right-size 0 (c .match .keys2) refl (c .before .before .pre))))
+    (λ c. keyed layoutOf _ [] (c .match .keys3) (spread 0 _ (right-size 0 (c .match .keys3) refl (c .before .before .pre))))
+    (λ c. keyed layoutOf _ [] (c .match .keys4) (spread 0 _ (right-size 0 (c .match .keys4) refl (c .before .before .pre))))
+    (λ c. keyed layoutOf _ [] (c .match .keys5) (spread 0 _ (right-size 0 (c .match .keys5) refl (c .before .before .pre))))
+    (λ c. keyed layoutOf _ [] (c .match .keys6) (spread 0 _ (right-size 0 (c .match .keys6) refl (c .before .before .pre))))
+    (λ c. keyed layoutOf _ [] (c .match .keys7) (spread 0 _ (right-size 0 (c .match .keys7) refl (c .before .before .pre))))
+    (λ c. keyed layoutOf _ [] (c .match .keys8) (spread 0 _ (right-size 0 (c .match .keys8) refl (c .before .before .pre))))
     (λ c. keyed layoutOf _ _ (c .before .before .before .match .keys9) (ap (λ (w : ℕ). w ∷ []) (c .word .ensures)))
-    (λ c. keyed layoutOf _ [] (c .match .keys10) (spread 0 _ (sized payloadSizeOf 0 (c .match .keys10) refl (c .before .before .pre))))
-    (λ c. keyed layoutOf _ [] (c .match .keys11) (spread 0 _ (sized payloadSizeOf 0 (c .match .keys11) refl (c .before .before .pre))))
-    (λ c. keyed layoutOf _ [] (c .match .keys12) (spread 0 _ (sized payloadSizeOf 0 (c .match .keys12) refl (c .before .before .pre))))
-    (λ c. keyed layoutOf _ [] (c .match .keys13) (spread 0 _ (sized payloadSizeOf 0 (c .match .keys13) refl (c .before .before .pre))))
+    (λ c. keyed layoutOf _ [] (c .match .keys10) (spread 0 _ (right-size 0 (c .match .keys10) refl (c .before .before .pre))))
+    (λ c. keyed layoutOf _ [] (c .match .keys11) (spread 0 _ (right-size 0 (c .match .keys11) refl (c .before .before .pre))))
+    (λ c. keyed layoutOf _ [] (c .match .keys12) (spread 0 _ (right-size 0 (c .match .keys12) refl (c .before .before .pre))))
+    (λ c. keyed layoutOf _ [] (c .match .keys13) (spread 0 _ (right-size 0 (c .match .keys13) refl (c .before .before .pre))))
     (λ c.
     let b = c .before .before in
     keyed layoutOf _ _ (b .before .match .keys14)
-    (spread 3 _ (sized payloadSizeOf 3 (b .before .match .keys14) refl (b .before .before .before .pre))))
-    (λ c. keyed layoutOf _ [] (c .match .keys15) (spread 0 _ (sized payloadSizeOf 0 (c .match .keys15) refl (c .before .before .pre))))
+    (spread 3 _ (right-size 3 (b .before .match .keys14) refl (b .before .before .before .pre))))
+    (λ c. keyed layoutOf _ [] (c .match .keys15) (spread 0 _ (right-size 0 (c .match .keys15) refl (c .before .before .pre))))
     (λ c.
     keyed layoutOf _ _ (c .before .match .keys16)
-    (spread 1 _ (sized payloadSizeOf 1 (c .before .match .keys16) refl (c .before .before .before .pre))))
-    (λ c. keyed layoutOf _ [] (c .match .keys17) (spread 0 _ (sized payloadSizeOf 0 (c .match .keys17) refl (c .before .before .pre))))
+    (spread 1 _ (right-size 1 (c .before .match .keys16) refl (c .before .before .before .pre))))
+    (λ c. keyed layoutOf _ [] (c .match .keys17) (spread 0 _ (right-size 0 (c .match .keys17) refl (c .before .before .pre))))
     (λ c.
     let m = c .before .before .before .before .before .before .before .before .before in
     keyed layoutOf _ _ (m .match .keys18)
@@ -77,4 +81,4 @@ command-of-spec =
     (c .before .before .before .before .before .before .pwm-from .ensures)
     (c .before .before .before .pwm-from2 .ensures)
     (c .pwm-from3 .ensures)))
-    (λ c. keyed layoutOf _ [] (reset c) (spread 0 _ (sized payloadSizeOf 0 (reset c) refl (c .before .before .pre)))))
+    (λ c. keyed layoutOf _ [] (reset c) (spread 0 _ (right-size 0 (reset c) refl (c .before .before .pre)))))

@@ -2,11 +2,12 @@
 -- Assumes nothing.
 use mathlib.Core.Path.{_≡_, _∙_, sym, ap}
 use borrow.Author.Needs.{needs}
-use borrow.Author.Tests.{eqb-true, not-true, not-false}
+use borrow.Author.Tests.{not-true, not-false}
 use lib.ListN.{length}
 use mathlib.Core.Bool.{true}
 use Rattle.telegram.specs.Numbers.{done}
 use Rattle.table.specs.Table.{rowOf, entryAs, payloadFits}
+use Rattle.table.proofs.Table.{row-right}
 use Rattle.command.proofs.Naming.{compose-unknown, compose-size, compose-done}
 use Rattle.command.proofs.compose.Statement.{statement}
 use Rattle.command.proofs.compose.Tie as tie
@@ -31,5 +32,5 @@ compose-spec =
     (λ c κs. tt)
     (λ c.
     compose-size _ _ _ (row-is (c .before .before)) (sym (c .before .payload-fits .ensures) ∙ not-true _ (c .if1 .taken)))
-    (λ c κs. simp (row-is (c .before .before)) (ap done (sym (eqb-true _ _ (fits c)))))
+    (λ c κs. row-right _ _ _ (row-is (c .before .before)) (fits c))
     (λ c. ap done (c .command-of .ensures) ∙ compose-done _ _ _ (row-is (c .before .before .before)) (fits (c .before))))

@@ -5,7 +5,7 @@ use borrow.Author.Needs.{needs}
 use denote.Ref.{now}
 use Rattle.command.specs.Commands.{naming, headingAs}
 use Rattle.command.specs.declared.Heading.the-variants.{To}
-use Rattle.command.proofs.Naming.{headed-payload, headed-message}
+use Rattle.command.proofs.Naming.{headed-size, headed-message}
 use Rattle.command.proofs.name_command.Statement.{statement}
 use Rattle.command.proofs.name_command.Tie as tie
 
@@ -27,7 +27,7 @@ name-command-spec =
     (λ c. search needs)
     (λ c. search needs)
     (λ c. search needs)
-    (λ c κs. headed-payload _ _ _ (heading-is (c .before .before)) (c .before .before .before .before .before .before .before .pre))
+    (λ c κs. headed-size _ _ _ (heading-is (c .before .before)) (c .before .before .before .before .before .before .before .pre))
     (λ c. search needs)
     (λ c. headed-message _ _ _ (heading-is (c .before .before .before)) (c .before .before .before .before .before .before .before .before .pre) (c .command-of .ensures))
     (λ c.
