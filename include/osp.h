@@ -96,7 +96,9 @@ uint32_t osp_dissect_answer(const uint8_t *s, size_t n, uint8_t *out, size_t roo
 /*
  * The command builder, of a command's number, its cast with a value, and the
  * bytes of its payload. Refusals 6 (no such command), 8 (not its payload size),
- * then 10 (cast or value out of range), 7 and 9. Writes the telegram.
+ * then 10 (cast or value out of range), 7 and 9. The command's own size is
+ * tested before the rest, so a payload of 5, 7, 9 or more bytes, a length that
+ * no telegram has, gives 8 here and not 10. Writes the telegram.
  */
 uint32_t osp_build_command(uint32_t command, uint32_t cast, uint32_t value, const uint8_t *payload, size_t n,
                            uint8_t *out, size_t room);
