@@ -1,11 +1,11 @@
--- `cases::print_bytes` ends and reads within its slice: the index only grows.
+-- `cases::printing::print_bytes` ends and reads within its slice: the index only grows.
 -- Assumes nothing.
 use Prim.Native.Nat.{_-_}
 use native.Mathlib.Omega.{arith}
 use borrow.Author.Needs.{needs}
 use lib.ListN.{length}
-use Rattle.cases.proofs.print_bytes.Statement.{statement}
-use Rattle.cases.proofs.print_bytes.Tie as tie
+use Rattle.cases.proofs.printing.print_bytes.Statement.{statement}
+use Rattle.cases.proofs.printing.print_bytes.Tie as tie
 
 abbrev Inv-loop : tie.InvT-loop
 Inv-loop s i₀ i = Unit {0}

@@ -1,12 +1,12 @@
--- `cases::put_all` meets its contract.
+-- `cases::chains::put_all` meets its contract.
 -- Assumes nothing.
 use mathlib.Core.Path.{_≡_, refl}
 use Prim.Native.Nat.{_-_}
 use native.Mathlib.Omega.{arith}
 use lib.ListN.{length}
 use borrow.Author.Needs.{needs}
-use Rattle.cases.proofs.put_all.Statement.{statement}
-use Rattle.cases.proofs.put_all.Tie as tie
+use Rattle.cases.proofs.chains.put_all.Statement.{statement}
+use Rattle.cases.proofs.chains.put_all.Tie as tie
 
 abbrev Inv-loop : tie.InvT-loop
 Inv-loop src dst₀ i₀ dst i = length dst ≡ length dst₀

@@ -1,27 +1,27 @@
--- `cases::bytes_of` ends and reads within its slice: the index only grows.
+-- `cases::printing::unchanged` ends and reads within its slice: the index only grows.
 -- Assumes nothing.
 use Prim.Native.Nat.{_-_}
 use native.Mathlib.Omega.{arith}
 use borrow.Author.Needs.{needs}
 use lib.ListN.{length}
-use Rattle.cases.proofs.bytes_of.Statement.{statement}
-use Rattle.cases.proofs.bytes_of.Tie as tie
+use Rattle.cases.proofs.printing.unchanged.Statement.{statement}
+use Rattle.cases.proofs.printing.unchanged.Tie as tie
 
 abbrev Inv-loop : tie.InvT-loop
-Inv-loop line b₀ i₀ b i = Unit {0}
+Inv-loop out i₀ i = Unit {0}
 
 abbrev μ-loop : tie.MeasureT-loop
-μ-loop line b₀ i₀ b i = length line - i
+μ-loop out i₀ i = length out - i
 
-pub bytes-of-spec : {M : Type 1} → statement M
-bytes-of-spec =
+pub unchanged-spec : {M : Type 1} → statement M
+unchanged-spec =
     tie.close
     (tie.spec
     Inv-loop
     μ-loop
     (λ c. tt)
     (λ c. search needs)
-    (λ c κs. tt)
+    (λ c. search needs)
     (λ c. search needs)
     (λ c. omega arith)
     (λ c. tt)

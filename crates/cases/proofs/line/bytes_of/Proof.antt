@@ -1,27 +1,27 @@
--- `cases::unchanged` ends and reads within its slice: the index only grows.
+-- `cases::line::bytes_of` ends and reads within its slice: the index only grows.
 -- Assumes nothing.
 use Prim.Native.Nat.{_-_}
 use native.Mathlib.Omega.{arith}
 use borrow.Author.Needs.{needs}
 use lib.ListN.{length}
-use Rattle.cases.proofs.unchanged.Statement.{statement}
-use Rattle.cases.proofs.unchanged.Tie as tie
+use Rattle.cases.proofs.line.bytes_of.Statement.{statement}
+use Rattle.cases.proofs.line.bytes_of.Tie as tie
 
 abbrev Inv-loop : tie.InvT-loop
-Inv-loop out i₀ i = Unit {0}
+Inv-loop line b₀ i₀ b i = Unit {0}
 
 abbrev μ-loop : tie.MeasureT-loop
-μ-loop out i₀ i = length out - i
+μ-loop line b₀ i₀ b i = length line - i
 
-pub unchanged-spec : {M : Type 1} → statement M
-unchanged-spec =
+pub bytes-of-spec : {M : Type 1} → statement M
+bytes-of-spec =
     tie.close
     (tie.spec
     Inv-loop
     μ-loop
     (λ c. tt)
     (λ c. search needs)
-    (λ c. search needs)
+    (λ c κs. tt)
     (λ c. search needs)
     (λ c. omega arith)
     (λ c. tt)

@@ -1,0 +1,87 @@
+// The results of cases as lines.
+use crate::FILL;
+use libc::STDOUT_FILENO;
+
+// The result of a call with a room of its own.
+pub(crate) fn print_room(result: u32, out: &[u8; 48]) {
+    print_result(result, out);
+}
+
+// The number given back and, where it is 0, the count and the bytes written; and whether another byte of the room changed.
+pub(crate) fn print_result(result: u32, out: &[u8]) {
+    let number = result % 256;
+    let written = text::within((result / 256) as usize, out);
+    print(b"  ");
+    print_decimal(number);
+    if number == 0 {
+        print(b" ");
+        print_decimal(result / 256);
+        print_bytes(&out[..written]);
+    }
+    print(b"\n");
+    if !unchanged(text::from(out, written)) {
+        print(b"  room changed\n");
+    }
+}
+
+// Whether each byte is as it was before the call.
+fn unchanged(out: &[u8]) -> bool {
+    let mut i = 0;
+    while i < out.len() {
+        if out[i] != FILL {
+            return false;
+        }
+        i += 1;
+    }
+    true
+}
+
+// A checksum.
+pub(crate) fn print_checksum(b: u8) {
+    print(b"  ");
+    print_hex(b);
+    print(b"\n");
+}
+
+// The checksum of the lent chain memory.
+pub(crate) fn print_record(memory: &[u8], lent: usize) {
+    print(b"  record ");
+    print_hex(osp::osp_checksum(text::first(memory, lent)));
+    print(b"\n");
+}
+
+// The length of a record, as four bytes.
+pub(crate) fn print_length(n: u32) {
+    print(b"  ");
+    print_hex((n / 16777216 % 256) as u8);
+    print_hex((n / 65536 % 256) as u8);
+    print_hex((n / 256 % 256) as u8);
+    print_hex((n % 256) as u8);
+    print(b"\n");
+}
+
+pub(crate) fn print(s: &[u8]) {
+    io::write_all(STDOUT_FILENO, s);
+}
+
+fn print_decimal(n: u32) {
+    let mut digits = [0u8; 20];
+    let k = io::decimal(n as u64, &mut digits);
+    print(&digits[..k]);
+}
+
+fn print_hex(b: u8) {
+    print(&[text::digit(b / 16), text::digit(b % 16)]);
+}
+
+fn print_byte(b: u8) {
+    print(&[b' ', text::digit(b / 16), text::digit(b % 16)]);
+}
+
+fn print_bytes(s: &[u8]) {
+    let mut i = 0;
+    while i < s.len() {
+        print_byte(s[i]);
+        i += 1;
+    }
+}
