@@ -19,7 +19,9 @@ use Rattle.rules.proofs.Kept.{Keeps, deliver-keeps, run-keeps, made-right}
 use Rattle.chain.specs.Record.{recordLength, decode, hold, chainIn}
 use Rattle.chain.specs.Memory.{Left, onChain, delivered, held, made, lampRead, deliveredAs}
 use Rattle.chain.specs.Calls.{Call, Returned, Delivers, Calls, lastMemory, heardAs, heard, deliveryOf, Started, Makes}
-use Rattle.chain.proofs.Records.{length-lampsIn, hold-hold, chain-in, hold-chain}
+use Rattle.chain.proofs.Places.{length-lampsIn}
+use Rattle.chain.proofs.Validity.{chain-in}
+use Rattle.chain.proofs.Records.{hold-hold, hold-chain}
 
 -- What a call leaves, of memory and of a chain.
 abbrev pub calling : List ℕ → Call → Left

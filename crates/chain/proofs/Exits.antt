@@ -16,7 +16,7 @@ use Rattle.rules.specs.Chain.{Chain, withLamps, countRight, fresh, sensing, ans
 use Rattle.chain.specs.Record.{recordLength, countOf, lampsIn, decode, hold, chainIn}
 use Rattle.chain.specs.Places.{lampAt}
 use Rattle.chain.specs.Memory.{held, silent, made, sensedIn, lampRead}
-use Rattle.chain.proofs.Records.{lampIn-at, lampIn-none}
+use Rattle.chain.proofs.Places.{lampIn-at, lampIn-none}
 
 -- A test of memory, that it held and that it did not.
 pub chain-yes : (mem : List ℕ) (r : Bool) → cond r (done (decode mem)) (refused 11) ≡ chainIn mem → r ≡ true → chainIn mem ≡ done (decode mem)

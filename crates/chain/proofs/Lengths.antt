@@ -15,6 +15,7 @@ use Rattle.rules.specs.declared.Defaults.{Defaults}
 use Rattle.rules.specs.declared.Lamp.{Lamp}
 use Rattle.rules.specs.Lamp.{report, acted, answered, numberedAs, withCE}
 use Rattle.rules.specs.Chain.{Chain, Step, onward, ends, stepped, walk, answerFrom, reaching, isInit, lastAnswers, initialising, visiting, permitting, taken, responding, roomSmall, delivering, deliver}
+use Rattle.rules.proofs.Walks.{Ending, walk-outcome}
 use Rattle.lamp.proofs.Payloads.{answered-listed}
 use Rattle.chain.specs.Record.{chainIn}
 use Rattle.chain.specs.Memory.{delivered, onChain}
@@ -24,36 +25,24 @@ abbrev pub Short : Outcome (List ℕ) → Type 0
 Short (refused n) = Unit {0}
 Short (done s) = length s ≤ 12
 
-abbrev ShortStep : Step → Type 0
-ShortStep (onward x) = Unit {0}
-ShortStep (ends x o) = Short o
-
 short-answer : (a n : ℕ) (p : List ℕ) → length p ≤ 8 → Short (done (answerFrom a n p))
 short-answer a n [] h = omega arith
 short-answer a n (x ∷ p) h = omega (arith, telegram-length a n (x ∷ p))
 
-short-walk : (visit : ℕ → Lamp → Step) → ((p : ℕ) (x : Lamp) → ShortStep (visit p x)) → (p : ℕ) (xs : List Lamp) → Short (walk visit p xs .outcome)
-short-walk visit h p [] = omega arith
-short-walk visit h p (x ∷ xs) = go (visit p x) (h p x) (short-walk visit h (suc p) xs)
-  where
-    go : (s : Step) → ShortStep s → Short (walk visit (suc p) xs .outcome) → Short (stepped s xs (walk visit (suc p) xs) .outcome)
-    go (onward y) k ih = ih
-    go (ends y o) k ih = k
-
-short-reaching : (d : Defaults) (m : Message) (cast : Cast) (p : ℕ) (x : Lamp) → ShortStep (reaching d m cast p x)
+short-reaching : (d : Defaults) (m : Message) (cast : Cast) (p : ℕ) (x : Lamp) → Ending Short (reaching d m cast p x)
 short-reaching d m Everyone p x = tt
 short-reaching d m (One a) p x = go (eqb (x .address .0) (a .0))
   where
-    go : (b : Bool) → ShortStep (cond b (ends (acted d m x) (done (answerFrom (a .0) (m .number) (answered (m .number) x)))) (onward x))
+    go : (b : Bool) → Ending Short (cond b (ends (acted d m x) (done (answerFrom (a .0) (m .number) (answered (m .number) x)))) (onward x))
     go true = short-answer (a .0) (m .number) (answered (m .number) x) (listed-le _ (answered-listed (m .number) x))
     go false = tt
 short-reaching d m (Group g) p x = tt
 
-short-last : (b : Bool) (a n : ℕ) (x : Lamp) → ShortStep (lastAnswers b a n x)
+short-last : (b : Bool) (a n : ℕ) (x : Lamp) → Ending Short (lastAnswers b a n x)
 short-last true a n x = short-answer a n (report x) (omega arith)
 short-last false a n x = tt
 
-short-init : (n k : ℕ) (cast : Cast) (p : ℕ) (x : Lamp) → ShortStep (initialising n k cast p x)
+short-init : (n k : ℕ) (cast : Cast) (p : ℕ) (x : Lamp) → Ending Short (initialising n k cast p x)
 short-init n k Everyone p x = short-last (eqb (suc p) n) 0 k (cond (eqb k 0x02) (withCE x) x)
 short-init n k (One a) p x = short-last (eqb (suc p) n) (a .0 + p) k (numberedAs k (a .0 + p) x)
 short-init n k (Group g) p x = tt
@@ -64,8 +53,8 @@ short-taken d xs (refused n) = tt
 short-taken d xs (done t) = walks (isInit (t .message .number))
   where
     walks : (b : Bool) → Short (walk (cond b (initialising (length xs) (t .message .number) (t .cast)) (reaching d (t .message) (t .cast))) 0 xs .outcome)
-    walks true = short-walk _ (short-init (length xs) (t .message .number) (t .cast)) 0 xs
-    walks false = short-walk _ (short-reaching d (t .message) (t .cast)) 0 xs
+    walks true = walk-outcome Short _ (omega arith) (short-init (length xs) (t .message .number) (t .cast)) 0 xs
+    walks false = walk-outcome Short _ (omega arith) (short-reaching d (t .message) (t .cast)) 0 xs
 
 short-deliver : (c : Chain) (s : List ℕ) (room : ℕ) → Short (deliver c s room .outcome)
 unfolding deliver delivering responding

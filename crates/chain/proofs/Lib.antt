@@ -1,9 +1,14 @@
 pub mod Slots
+pub mod Places
+pub mod Sweeps
+pub mod Validity
 pub mod Records
 pub mod Changes
 pub mod Strides
 pub mod Exits
 pub mod Responding
+pub mod Inits
+pub mod Delivering
 pub mod Lengths
 pub mod Calling
 pub mod InMemory

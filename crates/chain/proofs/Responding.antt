@@ -1,39 +1,31 @@
--- An accepted or refused telegram and the lamps in memory, exit by exit, as the code goes.
+-- A telegram and the lamps in memory, exit by exit, as the code goes: everyone, a group, one lamp, a refused one.
 -- Assumes nothing.
-use mathlib.Core.Path.{_≡_, refl, sym, ap, ap₂, _∙_}
+use mathlib.Core.Path.{_≡_, refl, sym, ap, _∙_}
 use mathlib.Core.Logic.{_≢_}
-use mathlib.Core.Bool.{Bool, true, false, cond}
 use mathlib.Core.List.{List, [], _∷_}
-use Prim.Native.Nat.{ℕ, _+_, _-_, _%_, _≤_, _<_}
-use native.Mathlib.Omega.{arith}
-use lib.Dec.{eqb, ltb}
+use Prim.Native.Nat.{ℕ, _<_}
 use lib.ListN.{length, getD, set}
-use borrow.Author.Tests.{lt-ltb, le-ltb, eq-eqb, ne-eqb}
-use Rattle.telegram.specs.Numbers.{Outcome, refused, done, refuse, counted, front, leaves}
-use Rattle.telegram.specs.Telegram.{Bytes, reading}
-use Rattle.telegram.specs.declared.Telegram.{Telegram}
-use Rattle.telegram.proofs.Reading.{framed, accepted}
+use borrow.Author.Tests.{eq-eqb, ne-eqb}
+use Rattle.telegram.specs.Numbers.{Outcome, refused, done, counted, front, leaves}
+use Rattle.telegram.specs.Telegram.{Bytes}
 use Rattle.telegram.specs.declared.Address.{Address}
-use Rattle.table.specs.Casts.{castInRange}
-use Rattle.table.specs.declared.Cast.{Cast}
-use Rattle.table.specs.declared.Cast.the-variants.{Everyone, One, Group}
-use Rattle.command.specs.Commands.{Message, Sent, dissecting}
-use Rattle.table.proofs.Destinations.{reached as in-range}
-use Rattle.command.proofs.Naming.{named, dissected}
+use Rattle.table.specs.declared.Cast.the-variants.{One}
+use Rattle.command.specs.Commands.{Message}
 use Rattle.rules.specs.declared.Place.{Place}
-use Rattle.rules.specs.declared.Defaults.{Defaults}
 use Rattle.rules.specs.declared.Lamp.{Lamp}
-use Rattle.rules.specs.Lamp.{acted, answered, report, numberedAs, withCE}
-use Rattle.rules.specs.Chain.{withLamps, Step, Walked, walk, taken, reaching, isInit, visiting, permitting, anyUnaddressed, responding, delivering, deliver, answerFrom}
-use Rattle.chain.specs.Record.{countOf, lampsIn, decode, hold, chainIn}
+use Rattle.rules.specs.Lamp.{acted, answered, withCE}
+use Rattle.rules.specs.Chain.{withLamps, Walked, walk, reaching, responding, answerFrom}
+use Rattle.chain.specs.Record.{countOf, lampsIn, decode, hold}
 use Rattle.chain.specs.Places.{lampAt, withLamp, sweep, actedIn, placeFrom, heldAfter}
-use Rattle.chain.specs.Memory.{Left, delivered}
-use Rattle.chain.specs.Helpers.{respondedIn, refusedIn, reachedIn, initOf, castOf}
+use Rattle.chain.specs.Helpers.{refusedIn, reachedIn, castOf}
 use Rattle.chain.specs.declared.Found.the-variants.{At, Nobody}
 use Rattle.chain.specs.declared.Reach.{Reach}
 use Rattle.chain.specs.declared.Reach.the-variants.{Everyone as All, Members}
-use Rattle.chain.proofs.Records.{Valid, eachFrom, length-lampsIn, getD-lampsIn, hold-decode, hold-set, hold-each, hold-at, rest, rest-all, rest-more, length-each}
-use Rattle.chain.proofs.Strides.{walk-everyone, walk-group, walk-nobody, walk-found, walk-init, walk-init-all}
+use Rattle.chain.proofs.Places.{length-lampsIn, getD-lampsIn, rest, rest-all, rest-more}
+use Rattle.chain.proofs.Sweeps.{eachFrom}
+use Rattle.chain.proofs.Validity.{Valid}
+use Rattle.chain.proofs.Records.{hold-decode, hold-set, hold-each}
+use Rattle.chain.proofs.Strides.{walk-everyone, walk-group, walk-nobody, walk-found}
 
 -- What a call answers and leaves, of the walk that it is.
 pub record Walks (mem room : List ℕ) (w : Walked) (r : Outcome ℕ) (mem′ room′ : List ℕ) : Type 0 where
@@ -75,17 +67,6 @@ module _ (mem room : List ℕ) {w : Walked} {xs : List Lamp} where
         memory = m ∙ sym (ap (λ (x : Walked). hold mem (withLamps (decode mem) (x .lamps))) e);
         lent = sym (ap (λ (x : Walked). leaves (x .outcome) room) e);
       }
-
--- An init visits each lamp by its number and its cast alone.
-visits-alike : (d : Defaults) (n : ℕ) (m : Message) (cast : Cast) → isInit (m .number) ≡ true
-    → visiting d n (record { message = m; cast = cast }) ≡ visiting d n (initOf (m .number) cast)
-unfolding visiting
-visits-alike d n m cast h = simp h
-
-alike-taken : (d : Defaults) (xs : List Lamp) (b : Bool) (n : ℕ) (t u : Sent) → visiting d (length xs) t ≡ visiting d (length xs) u
-    → taken d xs (refuse b n (done t)) ≡ taken d xs (refuse b n (done u))
-alike-taken d xs true n t u e = refl
-alike-taken d xs false n t u e = ap (λ (f : ℕ → Lamp → Step). walk f 0 xs) e
 
 module _ (mem : List ℕ) (b : Bytes mem) (v : Valid mem (decode mem)) where
   -- The lamps in memory as they are.
@@ -138,91 +119,6 @@ module _ (mem : List ℕ) (b : Bytes mem) (v : Valid mem (decode mem)) where
         ∙ hold-set mem b (v .room) (q .0) (acted d m (getD (lampsIn n mem) (q .0) y)) found-in)
         (eo ∙ ap (λ (p : List ℕ). front (answerFrom (a .0) (m .number) p) room) (ep ∙ ap (answered (m .number)) (sym g)))
 
-  -- A command that is no init walks by its cast; an init is judged by its number and its cast alone.
-  pub respond-plain : (t : Sent) → isInit (t .message .number) ≡ false → respondedIn mem t ≡ reachedIn mem (t .message) (t .cast)
-  unfolding respondedIn reachedIn responding permitting visiting
-  respond-plain t h = simp h
-
-  pub respond-init : (t : Sent) → isInit (t .message .number) ≡ true → respondedIn mem t ≡ respondedIn mem (initOf (t .message .number) (t .cast))
-  unfolding respondedIn responding permitting
-  respond-init t h = by (t .cast)
-    where
-      by : (cast : Cast) → respondedIn mem (record { message = t .message; cast = cast }) ≡ respondedIn mem (initOf (t .message .number) cast)
-      by Everyone = simp h (alike-taken (decode mem .defaults) (decode mem .lamps) (anyUnaddressed (decode mem .lamps)) 7 _ _ (visits-alike _ _ _ _ h))
-      by (One a) = simp h (alike-taken (decode mem .defaults) (decode mem .lamps) (ltb 0x3EF (a .0 + length (decode mem .lamps) - 1)) 12 _ _ (visits-alike _ _ _ _ h))
-      by (Group g) = simp h
-
-  module _ (k : ℕ) (i : isInit k ≡ true) where
-    some : 0 < length (lampsIn (countOf mem) mem)
-    some = rw length-lampsIn (v .some)
-
-    -- Each lamp by a rule, and the answer of the last one of n.
-    last-answers : (room : List ℕ) {w : Walked} (rule : ℕ → Lamp → Lamp) {c c′ n : ℕ} → n ≡ countOf mem → c′ ≡ c
-        → w ≡ record {
-          lamps = eachFrom rule 0 (lampsIn (countOf mem) mem);
-          outcome =
-              done (answerFrom c k
-              (report (getD (eachFrom rule 0 (lampsIn (countOf mem) mem)) (length (lampsIn (countOf mem) mem) - 1) (lampAt mem 0))));
-        }
-        → {mem′ room′ : List ℕ} {r : Outcome ℕ} → mem′ ≡ sweep rule 0 n mem
-        → r ≡ counted (done (answerFrom c′ k (report (lampAt mem′ (n - 1))))) → room′ ≡ front (answerFrom c′ k (report (lampAt mem′ (n - 1)))) room
-        → Walks mem room w r mem′ room′
-    last-answers room rule {n = n} en ec ew {mem′} em er eo =
-        let xs = lampsIn (countOf mem) mem in
-        let ys = eachFrom rule 0 xs in
-        let l : length xs ≡ n = length-lampsIn (countOf mem) mem ∙ sym en in
-        let lt : n - 1 < length ys = rw length-each (omega (arith, l, en, v .some)) in
-        let f : mem′ ≡ hold mem (withLamps (decode mem) ys) = em ∙ ap (λ (q : ℕ). sweep rule 0 q mem) en ∙ hold-each mem b (v .room) rule in
-        let g : lampAt mem′ (n - 1) ≡ getD ys (length xs - 1) (lampAt mem 0) =
-        ap (λ (m : List ℕ). lampAt m (n - 1)) f ∙ hold-at mem (withLamps (decode mem) ys) (n - 1) (lampAt mem 0) lt
-        ∙ ap (λ (q : ℕ). getD ys (q - 1) (lampAt mem 0)) (sym l) in
-        let s = ap₂ (λ (a : ℕ) (x : Lamp). answerFrom a k (report x)) ec g in
-        walks-done mem room ew (er ∙ ap (λ (q : List ℕ). counted (done q)) s) f (eo ∙ ap (λ (q : List ℕ). front q room) s)
-
-    -- Init from an address: past 3EF nothing changes ..
-    pub init-past : (a : Address) (room : List ℕ) → 0x3EF < a .0 + countOf mem - 1
-        → Walks mem room (respondedIn mem (initOf k (One a))) (refused 12) mem room
-    unfolding respondedIn responding permitting decode
-    init-past a room h =
-        let e : ltb 0x3EF (a .0 + length (lampsIn (countOf mem) mem) - 1) ≡ true = rw length-lampsIn (lt-ltb _ _ h) in
-        walks-refused mem room (simp (i, e)) held-same
-
-    -- .. else each lamp is numbered, and the last one answers.
-    pub init-numbers : (a : Address) (room : List ℕ) {n : ℕ} → n ≡ countOf mem → a .0 + n - 1 ≤ 0x3EF → {mem′ room′ : List ℕ} {r : Outcome ℕ}
-        → mem′ ≡ sweep (λ (p : ℕ) (l : Lamp). numberedAs k (a .0 + p) l) 0 n mem
-        → r ≡ counted (done (answerFrom (a .0 + n - 1) k (report (lampAt mem′ (n - 1)))))
-        → room′ ≡ front (answerFrom (a .0 + n - 1) k (report (lampAt mem′ (n - 1)))) room
-        → Walks mem room (respondedIn mem (initOf k (One a))) r mem′ room′
-    unfolding respondedIn responding permitting visiting decode
-    init-numbers a room {n} en h em er eo =
-        let xs = lampsIn (countOf mem) mem in
-        let l : length xs ≡ n = length-lampsIn (countOf mem) mem ∙ sym en in
-        let e : ltb 0x3EF (a .0 + length xs - 1) ≡ false = rw l (le-ltb _ _ h) in
-        let c : a .0 + n - 1 ≡ a .0 + (length xs - 1) = omega (arith, l, en, v .some) in
-        last-answers room (λ (p : ℕ) (x : Lamp). numberedAs k (a .0 + p) x) en c (simp (i, e) (walk-init k (lampAt mem 0) xs some a)) em er eo
-
-    -- Init at 000: refused while a lamp has no address ..
-    pub init-unaddressed : (room : List ℕ) → anyUnaddressed (lampsIn (countOf mem) mem) ≡ true
-        → Walks mem room (respondedIn mem (initOf k Everyone)) (refused 7) mem room
-    unfolding respondedIn responding permitting decode
-    init-unaddressed room h = walks-refused mem room (simp (i, h)) held-same
-
-    -- .. else INITBIDIR sets CE on each lamp, and the last one answers.
-    pub init-marks : (room : List ℕ) {n : ℕ} → n ≡ countOf mem → anyUnaddressed (lampsIn n mem) ≡ false → {mem′ room′ : List ℕ} {r : Outcome ℕ}
-        → mem′ ≡ sweep (λ (p : ℕ) (l : Lamp). cond (eqb k 0x02) (withCE l) l) 0 n mem
-        → r ≡ counted (done (answerFrom 0 k (report (lampAt mem′ (n - 1))))) → room′ ≡ front (answerFrom 0 k (report (lampAt mem′ (n - 1)))) room
-        → Walks mem room (respondedIn mem (initOf k Everyone)) r mem′ room′
-    unfolding respondedIn responding permitting visiting decode
-    init-marks room {n} en any em er eo =
-        let xs = lampsIn (countOf mem) mem in
-        let no : anyUnaddressed xs ≡ false = ap (λ (q : ℕ). anyUnaddressed (lampsIn q mem)) (sym en) ∙ any in
-        last-answers room (λ (p : ℕ) (l : Lamp). cond (eqb k 0x02) (withCE l) l) en refl (simp (i, no) (walk-init-all k (lampAt mem 0) xs some)) em er eo
-
-    -- An init for a group is refused. (The dissector accepts none.)
-    pub init-group : (g : ℕ) (room : List ℕ) → Walks mem room (respondedIn mem (initOf k (Group g))) (refused 7) mem room
-    unfolding respondedIn responding permitting decode
-    init-group g room = walks-refused mem room (simp i) held-same
-
   -- A refusal other than 5 changes nothing; 5 sets CE on the lamp at place 0.
   pub refuse-other : (n : ℕ) (room : List ℕ) → n ≢ 5 → Walks mem room (refusedIn mem n) (refused n) mem room
   unfolding refusedIn responding decode
@@ -238,33 +134,6 @@ module _ (mem : List ℕ) (b : Bytes mem) (v : Valid mem (decode mem)) where
       (em ∙ hold-set mem b (v .room) 0 (withCE x) (v .some)
       ∙ ap (λ (ys : List Lamp). hold mem (withLamps (decode mem) (set ys 0 (withCE x)))) xs)
 
--- Delivery: 9, 11, and else what the lamps in memory do with what the dissector gave.
-module _ (mem s : List ℕ) (room : ℕ) where
-  pub deliver-room : room < 12 → delivered mem s room ≡ record { memory = mem; outcome = refused 9 }
-  unfolding delivered
-  deliver-room h = simp (lt-ltb room 12 h)
-
-  pub deliver-invalid : 12 ≤ room → chainIn mem ≡ refused 11 → delivered mem s room ≡ record { memory = mem; outcome = refused 11 }
-  unfolding delivered
-  deliver-invalid h e = simp (le-ltb room 12 h, e)
-
-  pub deliver-walks : 12 ≤ room → chainIn mem ≡ done (decode mem) → {o : Outcome Sent} → dissecting s ≡ o
-      → let w = responding (decode mem .defaults) (decode mem .lamps) o in delivered mem s room ≡ record { memory = heldAfter mem w; outcome = w .outcome }
-  unfolding delivered heldAfter deliver delivering
-  deliver-walks h e d = simp (le-ltb room 12 h, e, d)
-
--- What the dissector accepts has a cast that can be sent to.
-pub accepted-cast : (s : List ℕ) (t : Sent) → dissecting s ≡ done t → castInRange (t .cast) ≡ true
-accepted-cast s t e =
-    let d = dissected s e in
-    in-range (d .0 .address .0) (t .cast) (named s (d .0) t (d .1 .1) .to) .range
-
--- What the reader accepts has a number that an answer may have.
-pub accepted-number : (s : List ℕ) (t : Telegram) → reading s ≡ done t → t .command ≤ 127
-accepted-number s t e =
-    let f : getD s 2 0 % 128 ≡ t .command = ap (λ (x : Telegram). x .command) (framed s t (accepted s t e .0) .fields) in
-    omega arith
-
 -- A command for everyone or a group is done without an answer.
 quiet : (mem : List ℕ) (m : Message) (r : Reach) → reachedIn mem m (castOf r) .outcome ≡ done []
 unfolding reachedIn
@@ -277,17 +146,3 @@ pub reached-done : (mem : List ℕ) (m : Message) (reach : Reach) (room : List �
 reached-done mem m reach room e =
     let q = sym (quiet mem m reach) in
     (ap counted q, (e, ap (λ (o : Outcome (List ℕ)). leaves o room) q))
-
--- What delivery answers and leaves, of what it comes to.
-pub left-as : (room : List ℕ) {l x : Left} {r : Outcome ℕ} {mem′ room′ : List ℕ} → l ≡ x
-    → r ≡ counted (x .outcome) → mem′ ≡ x .memory → room′ ≡ leaves (x .outcome) room
-    → (r ≡ counted (l .outcome)) × ((mem′ ≡ l .memory) × (room′ ≡ leaves (l .outcome) room))
-left-as room e a m o = (
-  a ∙ sym (ap (λ (y : Left). counted (y .outcome)) e),
-  (m ∙ sym (ap (λ (y : Left). y .memory) e), o ∙ sym (ap (λ (y : Left). leaves (y .outcome) room) e)),
-)
-
--- A refused telegram leaves the room.
-pub refused-room : (mem : List ℕ) (n : ℕ) (room : List ℕ) → room ≡ leaves (responding (decode mem .defaults) (decode mem .lamps) (refused n) .outcome) room
-unfolding responding
-refused-room mem n room = refl

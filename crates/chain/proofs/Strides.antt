@@ -22,7 +22,7 @@ use Rattle.rules.specs.Chain.{Step, onward, ends, Walked, stepped, walk, answer
 use Rattle.chain.specs.Places.{placeFrom}
 use Rattle.chain.specs.declared.Found.{Found}
 use Rattle.chain.specs.declared.Found.the-variants.{At, Nobody}
-use Rattle.chain.proofs.Records.{eachFrom}
+use Rattle.chain.proofs.Sweeps.{eachFrom}
 
 -- A telegram that always goes on does its rule to each lamp.
 walk-onward : (rule : ℕ → Lamp → Lamp) (p : ℕ) (xs : List Lamp)

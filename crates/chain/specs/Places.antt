@@ -14,7 +14,8 @@ use Rattle.rules.specs.declared.Words.{Words}
 use Rattle.rules.specs.declared.Lamp.{Lamp}
 use Rattle.rules.specs.Lamp.{withState, obeys, acted, member}
 use Rattle.rules.specs.Chain.{Walked, withLamps}
-use Rattle.chain.specs.Record.{slotAt, slotSize, lampOf, slotOf, decode, hold}
+use Rattle.slot.specs.Slot.{slotSize, lampOf, slotOf}
+use Rattle.chain.specs.Record.{slotAt, decode, hold}
 use Rattle.chain.specs.declared.Reach.{Reach}
 use Rattle.chain.specs.declared.Reach.the-variants.{Everyone, Members}
 use Rattle.chain.specs.declared.Found.{Found}

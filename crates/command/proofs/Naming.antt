@@ -13,13 +13,13 @@ use Rattle.telegram.specs.Telegram.{reading, payloadIn}
 use Rattle.telegram.specs.declared.Telegram.{Telegram}
 use Rattle.telegram.proofs.Outcomes.{done-one, passed, went-on}
 use Rattle.table.specs.Casts.{destination}
-use Rattle.table.specs.Table.{rowOf, castListed, payloadFits, sizeRight, payloadSizeOf}
+use Rattle.table.specs.Table.{rowOf, castListed, payloadFits, sizeRight}
 use Rattle.table.specs.declared.Row.{Row}
 use Rattle.table.specs.declared.Cast.{Cast}
 use Rattle.command.specs.Fields.{layoutOf, fieldsBy}
 use Rattle.command.specs.Commands.{Message, numbered, Sent, composing, headingAs, fitting, naming, dissecting}
 use Rattle.command.specs.declared.Heading.the-variants.{To}
-use Rattle.table.proofs.Table.{part-right, right-payload}
+use Rattle.table.proofs.Table.{part-right}
 
 module _ (s : List ℕ) (t : Telegram) where
   pub name-unknown : {n : ℕ} → rowOf (t .command) ≡ refused n → refused n ≡ naming s t
@@ -81,9 +81,6 @@ module _ (s : List ℕ) (t : Telegram) (cast : Cast) (e : headingAs s t (To cast
   headed-size =
       let n = named s t _ (sym e) in
       part-right (t .command) (n .row) s (t .size) (n .known) (n .fits) h
-
-  pub headed-payload : payloadSizeOf (t .command) ≡ done (length (take (3 + t .size - 3) (drop 3 s)))
-  headed-payload = right-payload (t .command) _ headed-size
 
   pub headed-message : {m : Message} → m ≡ numbered (t .command) (fieldsBy (layoutOf (t .command)) (take (3 + t .size - 3) (drop 3 s)))
       → done (record { message = m; cast = cast }) ≡ naming s t

@@ -11,7 +11,7 @@ ghost use mathlib.Core.Bool.{_||_, not};
 ghost use mathlib.Core.List.{[], _∷_, _++_};
 ghost use Prim.Native.Nat.{_≤_, _/_, _%_};
 ghost use Rattle.command.specs.Fields.{wordBytes};
-ghost use Rattle.rules.specs.Lamp.{bit, stateNumber, statusByte, statusOf, blank, noFlags, marked, faulted, uninitialized, told, answered, report};
+ghost use Rattle.rules.specs.Lamp.{bit, stateNumber, statusByte, statusOf, blank, withState, noFlags, marked, faulted, uninitialized, told, answered, report};
 ghost use Rattle.lamp.specs.Reactions.{padded};
 
 // The bytes of an answer, in the first `size` bytes.
@@ -113,6 +113,27 @@ pub fn blank_lamp(d: Defaults, temperature: u8) -> Lamp
             green: 0,
             blue: 0,
         },
+    }
+}
+
+// A lamp with another state.
+pub fn with_state(l: Lamp, state: State) -> Lamp
+    ensures { λ r. ⌜ r ≡ withState state l ⌝ }
+{
+    let address = l.address;
+    let flags = l.flags;
+    let thresholds = l.thresholds;
+    let pwm = l.pwm;
+    Lamp {
+        address,
+        state,
+        direction: l.direction,
+        flags,
+        temperature: l.temperature,
+        thresholds,
+        setup: l.setup,
+        groups: l.groups,
+        pwm,
     }
 }
 

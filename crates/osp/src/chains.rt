@@ -17,13 +17,7 @@ ghost use Rattle.osp.specs.Interface.{returned, ospRecordLen, defaultsFr
 pub extern "C" fn osp_record_len(count: u32) -> u32
     ensures { λ r. ⌜ r ≡ ospRecordLen count ⌝ }
 {
-    if count < 1 {
-        return 0;
-    }
-    if 1007 < count {
-        return 0;
-    }
-    6 + 16 * count
+    chain::record_len(count as usize) as u32
 }
 
 // Makes a chain: 11, then 9.

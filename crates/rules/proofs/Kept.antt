@@ -19,25 +19,25 @@ use Rattle.command.proofs.RoundTrip.{one-lamp}
 use Rattle.rules.specs.declared.Defaults.{Defaults}
 use Rattle.rules.specs.declared.Lamp.{Lamp}
 use Rattle.rules.specs.Lamp.{blank, member, numberedAs, withCE, sensed}
-use Rattle.rules.specs.Chain.{Chain, withLamps, countRight, addressRight, addressesRight, chainRight, fresh, making, walk, reaching, isInit, lastAnswers, initialising, visiting, permitting, firstCE, taken, responding, roomSmall, delivering, deliver, lampIn, sensing}
+use Rattle.rules.specs.Chain.{Chain, withLamps, countRight, addressRight, lampRight, lampsRight, chainRight, fresh, making, walk, reaching, isInit, lastAnswers, initialising, visiting, permitting, firstCE, taken, responding, roomSmall, delivering, deliver, lampIn, sensing}
 use Rattle.rules.specs.Lists.{Delivery, run}
 use Rattle.rules.proofs.Walks.{lampOf, walk-length, Each, walk-each, either, acted-address, sought-address}
 use Rattle.rules.proofs.Deliveries.{permitted, permitted-fits}
 use Rattle.rules.proofs.Starting.{made-fresh}
 
--- An address that is right, and a lamp with such a one, at whichever place.
+-- A valid lamp, at whichever place, and an address that it may have.
+abbrev Right : ℕ → Lamp → Type 0
+Right p x = lampRight x ≡ true
+
 abbrev Valid : Address → Type 0
 Valid c = addressRight (c .0) ≡ true
 
-abbrev Right : ℕ → Lamp → Type 0
-Right p x = Valid (x .address)
-
 -- The test on all lamps, and the same of each lamp.
-right-each : (p : ℕ) (xs : List Lamp) → addressesRight xs ≡ true → Each Right p xs
+right-each : (p : ℕ) (xs : List Lamp) → lampsRight xs ≡ true → Each Right p xs
 right-each p [] h = tt
-right-each p (x ∷ xs) h = (and-left _ _ h, right-each (suc p) xs (and-right (addressRight (x .address .0)) _ h))
+right-each p (x ∷ xs) h = (and-left _ _ h, right-each (suc p) xs (and-right (lampRight x) _ h))
 
-each-right : (p : ℕ) (xs : List Lamp) → Each Right p xs → addressesRight xs ≡ true
+each-right : (p : ℕ) (xs : List Lamp) → Each Right p xs → lampsRight xs ≡ true
 each-right p [] h = refl
 each-right p (x ∷ xs) h = simp (h .0, each-right (suc p) xs (h .1))
 
@@ -50,7 +50,7 @@ last-lamp : (b : Bool) (a k : ℕ) (l : Lamp) → lampOf (lastAnswers b a k l) �
 last-lamp true a k l = refl
 last-lamp false a k l = refl
 
--- A visit leaves an address right: an init from a, with a + n at most 1008.
+-- A visit leaves a lamp valid: an init from a, with a + n at most 1008.
 visit-right : (d : Defaults) (n : ℕ) (t : Sent)
     → ((a : Address) → isInit (t .message .number) ≡ true → t .cast ≡ One a → (1 ≤ a .0) × (a .0 + n ≤ 1008))
     → (p : ℕ) (x : Lamp) → p < n → Right p x → Right p (lampOf (visiting d n t p x))
@@ -71,10 +71,10 @@ visit-right d n t fits p x l h = go (isInit k) (t .cast) fits
     go false (One a) f = sought-address d (t .message) (a .0) Valid p x refl h
     go false (Group g) f = either (Right p) (member g x) (acted-address Valid d (t .message) x refl h) h
 
--- Lamps that became others: as many, and their addresses are right where they were.
+-- Lamps that became others: as many, and valid where they were.
 record Held (xs ys : List Lamp) : Type 0 where
   count : length ys ≡ length xs
-  right : addressesRight xs ≡ true → addressesRight ys ≡ true
+  right : lampsRight xs ≡ true → lampsRight ys ≡ true
 
 -- The same lamps, and those with CE set on the first.
 held-same : (xs : List Lamp) → Held xs xs
@@ -118,11 +118,11 @@ held-delivering d xs s room = go (roomSmall room)
 held-set : (xs : List Lamp) (p : ℕ) (x y : Lamp) → lampIn xs p ≡ done x → y .address ≡ x .address → Held xs (set xs p y)
 held-set xs p x y e a = record { count = length-set xs p y; right = λ h. same xs p e ∙ h }
   where
-    same : (zs : List Lamp) (q : ℕ) → lampIn zs q ≡ done x → addressesRight (set zs q y) ≡ addressesRight zs
+    same : (zs : List Lamp) (q : ℕ) → lampIn zs q ≡ done x → lampsRight (set zs q y) ≡ lampsRight zs
     same [] q k = refl
     same (z ∷ zs) zero k =
-        ap (λ (s : Address). addressRight (s .0) && addressesRight zs) (a ∙ sym (ap (λ (l : Lamp). l .address) (done-one k)))
-    same (z ∷ zs) (suc q) k = ap (λ (b : Bool). addressRight (z .address .0) && b) (same zs q k)
+        ap (λ (s : Address). addressRight (s .0) && lampsRight zs) (a ∙ sym (ap (λ (l : Lamp). l .address) (done-one k)))
+    same (z ∷ zs) (suc q) k = ap (λ (b : Bool). lampRight z && b) (same zs q k)
 
 -- What a call keeps of a chain c that becomes e.
 pub record Keeps (c e : Chain) : Type 0 where
@@ -172,6 +172,6 @@ made-right n d c e =
     subst (λ (x : Chain). chainRight x ≡ true) (f .1 .1)
     (simp (length-replicate, le-leb 1 n (f .0), le-leb n 1007 (f .1 .0)) (all n))
   where
-    all : (m : ℕ) → addressesRight (replicate m (blank d 0)) ≡ true
+    all : (m : ℕ) → lampsRight (replicate m (blank d 0)) ≡ true
     all zero = refl
     all (suc m) = all m

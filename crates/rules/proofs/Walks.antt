@@ -9,15 +9,17 @@ use mathlib.Core.Bool.{Bool, true, false, cond}
 use mathlib.Core.List.{List, [], _∷_}
 use lib.Dec.{eqb}
 use lib.ListN.{length}
-use borrow.Author.Tests.{eq-eqb, ne-eqb}
-use Rattle.telegram.specs.Numbers.{done}
+use borrow.Author.Tests.{eq-eqb, ne-eqb, eqb-true}
+use Rattle.telegram.specs.Numbers.{Outcome, done}
 use Rattle.telegram.specs.declared.Address.{Address}
 use Rattle.telegram.proofs.Outcomes.{never, done-one}
 use Rattle.table.specs.declared.Cast.the-variants.{One}
 use Rattle.command.specs.Commands.{Message}
 use Rattle.rules.specs.declared.Defaults.{Defaults}
 use Rattle.rules.specs.declared.Lamp.{Lamp}
-use Rattle.rules.specs.Lamp.{noAddress, changed, acted, answered, obeys}
+use Rattle.rules.specs.declared.State.{State}
+use Rattle.rules.specs.declared.State.the-variants.{Sleep, Active, DeepSleep}
+use Rattle.rules.specs.Lamp.{noAddress, reset, cleared, withState, withGroups, withThresholds, withSetup, withPwm, field, pwmWords, changed, acted, answered, obeys}
 use Rattle.rules.specs.Chain.{Step, onward, ends, Walked, stepped, walk, answerFrom, reaching, lampIn}
 
 -- The lamp that a step leaves.
@@ -41,47 +43,117 @@ abbrev pub Each : (ℕ → Lamp → Type 0) → ℕ → List Lamp → Type 0
 Each P p [] = Unit {0}
 Each P p (x ∷ xs) = P p x × Each P (suc p) xs
 
--- Behind a step, the lamps that it leaves are as they were or as the walk left them.
-stepped-each : (P : ℕ → Lamp → Type 0) (s : Step) (p : ℕ) (xs : List Lamp) (w : Walked) → P p (lampOf s) → Each P (suc p) xs
-    → Each P (suc p) (w .lamps) → Each P p (stepped s xs w .lamps)
-stepped-each P (onward y) p xs w h hs ih = (h, ih)
-stepped-each P (ends y o) p xs w h hs ih = search
+-- Each lamp, from place p on, is to what it became as R says of its place.
+abbrev pub Became : (ℕ → Lamp → Lamp → Type 0) → ℕ → List Lamp → List Lamp → Type 0
+Became R p [] [] = Unit {0}
+Became R p [] (y ∷ ys) = ⊥
+Became R p (x ∷ xs) [] = ⊥
+Became R p (x ∷ xs) (y ∷ ys) = R p x y × Became R (suc p) xs ys
+
+-- Lamps that stayed, where R holds of a lamp that stays.
+stayed : (R : ℕ → Lamp → Lamp → Type 0) → ((p : ℕ) (x : Lamp) → R p x x) → (p : ℕ) (xs : List Lamp) → Became R p xs xs
+stayed R same p [] = tt
+stayed R same p (x ∷ xs) = (same p x, stayed R same (suc p) xs)
+
+-- Behind a step, the lamps are as they were or as the walk left them.
+stepped-became : (R : ℕ → Lamp → Lamp → Type 0) → ((p : ℕ) (x : Lamp) → R p x x) → (s : Step) (p : ℕ) (x : Lamp) (xs : List Lamp) (w : Walked)
+    → R p x (lampOf s) → Became R (suc p) xs (w .lamps) → Became R p (x ∷ xs) (stepped s xs w .lamps)
+stepped-became R same (onward y) p x xs w h ih = (h, ih)
+stepped-became R same (ends y o) p x xs w h ih = (h, stayed R same (suc p) xs)
+
+-- What holds between a lamp before and after a visit, at each of n places, holds of each lamp before and after a walk.
+pub walk-became : (R : ℕ → Lamp → Lamp → Type 0) (visit : ℕ → Lamp → Step) (n : ℕ) → ((p : ℕ) (x : Lamp) → R p x x)
+    → ((p : ℕ) (x : Lamp) → p < n → R p x (lampOf (visit p x)))
+    → (p : ℕ) (xs : List Lamp) → p + length xs ≤ n → Became R p xs (walk visit p xs .lamps)
+walk-became R visit n same visits p [] l = tt
+walk-became R visit n same visits p (x ∷ xs) l =
+    stepped-became R same (visit p x) p x xs (walk visit (suc p) xs) (visits p x (omega arith))
+    (walk-became R visit n same visits (suc p) xs (omega arith))
+
+-- What each lamp keeps, all keep.
+kept-each : (P : ℕ → Lamp → Type 0) (p : ℕ) (xs ys : List Lamp) → Became (λ (q : ℕ) (x y : Lamp). P q x → P q y) p xs ys
+    → Each P p xs → Each P p ys
+kept-each P p [] [] b h = tt
+kept-each P p [] (y ∷ ys) b h = absurd b
+kept-each P p (x ∷ xs) [] b h = absurd b
+kept-each P p (x ∷ xs) (y ∷ ys) b h = (b .0 (h .0), kept-each P (suc p) xs ys (b .1) (h .1))
 
 -- What a visit keeps at each of n places, a walk keeps of each lamp.
 pub walk-each : (P : ℕ → Lamp → Type 0) (visit : ℕ → Lamp → Step) (n : ℕ)
     → ((p : ℕ) (x : Lamp) → p < n → P p x → P p (lampOf (visit p x)))
     → (p : ℕ) (xs : List Lamp) → p + length xs ≤ n → Each P p xs → Each P p (walk visit p xs .lamps)
-walk-each P visit n keeps p [] l h = tt
-walk-each P visit n keeps p (x ∷ xs) l h =
-    stepped-each P (visit p x) p xs (walk visit (suc p) xs) (keeps p x (omega arith) (h .0)) (h .1)
-    (walk-each P visit n keeps (suc p) xs (omega arith) (h .1))
+walk-each P visit n keeps p xs l =
+    kept-each P p xs (walk visit p xs .lamps) (walk-became (λ (q : ℕ) (x y : Lamp). P q x → P q y) visit n (λ q x h. h) keeps p xs l)
 
--- What holds of both holds of the one that a test picks.
+-- A step that goes on, or that ends with an outcome of which Q holds.
+abbrev pub Ending : (Outcome (List ℕ) → Type 0) → Step → Type 0
+Ending Q (onward y) = Unit {0}
+Ending Q (ends y o) = Q o
+
+-- What holds of no answer and of each outcome with which a visit ends holds of the outcome of a walk.
+pub walk-outcome : (Q : Outcome (List ℕ) → Type 0) (visit : ℕ → Lamp → Step) → Q (done []) → ((p : ℕ) (x : Lamp) → Ending Q (visit p x))
+    → (p : ℕ) (xs : List Lamp) → Q (walk visit p xs .outcome)
+walk-outcome Q visit none visits p [] = none
+walk-outcome Q visit none visits p (x ∷ xs) = go (visit p x) (visits p x) (walk-outcome Q visit none visits (suc p) xs)
+  where
+    go : (s : Step) → Ending Q s → Q (walk visit (suc p) xs .outcome) → Q (stepped s xs (walk visit (suc p) xs) .outcome)
+    go (onward y) h ih = ih
+    go (ends y o) h ih = h
+
+-- What holds of both holds of the one that a test picks; of the first it is asked only where the test is true.
+pub where-true : {A : Type 0} {x y : A} (P : A → Type 0) (b : Bool) → (b ≡ true → P x) → P y → P (cond b x y)
+where-true P true h k = h refl
+where-true P false h k = k
+
 pub either : {A : Type 0} {x y : A} (P : A → Type 0) (b : Bool) → P x → P y → P (cond b x y)
-either P true h k = h
-either P false h k = k
+either P b h k = where-true P b (λ e. h) k
+
+-- What a command may make of a lamp, case by case, and that P holds of it.
+pub record Cases (P : Lamp → Type 0) (d : Defaults) (m : Message) (l : Lamp) : Type 0 where
+  pub stays : P l
+  pub resets : m .number ≡ 0x00 → P (reset d l)
+  pub clears : P (cleared l)
+  pub goes : (s : State) → P (withState s l)
+  pub groups : m .number ≡ 0x0D → P (withGroups (field m 0) l)
+  pub thresholds : m .number ≡ 0x4B → P (withThresholds (record { cycle = field m 0; low = field m 1; high = field m 2 }) l)
+  pub setup : m .number ≡ 0x4D → P (withSetup (field m 0) l)
+  pub pwm : m .number ≡ 0x4F → P (withPwm (pwmWords (m .fields)) l)
+
+-- What holds in each case holds of the lamp after the command.
+pub acted-cases : (P : Lamp → Type 0) (d : Defaults) (m : Message) (l : Lamp) → Cases P d m l → P (acted d m l)
+unfolding acted changed
+acted-cases P d m l c =
+    let n = m .number in
+    either P (obeys n (l .state))
+    (where-true P (eqb n 0x00) (λ e. c .resets (eqb-true _ _ e))
+    (either P (eqb n 0x01) (c .clears)
+    (either P (eqb n 0x04) (c .goes Sleep)
+    (either P (eqb n 0x05) (c .goes Active)
+    (either P (eqb n 0x06) (c .goes DeepSleep)
+    (where-true P (eqb n 0x0D) (λ e. c .groups (eqb-true _ _ e))
+    (either P (eqb n 0x40) (c .clears)
+    (either P (eqb n 0x42) (c .clears)
+    (where-true P (eqb n 0x4B) (λ e. c .thresholds (eqb-true _ _ e))
+    (where-true P (eqb n 0x4D) (λ e. c .setup (eqb-true _ _ e))
+    (where-true P (eqb n 0x4F) (λ e. c .pwm (eqb-true _ _ e))
+    (c .stays))))))))))))
+    (c .stays)
 
 -- A command leaves a lamp's address or takes it away: what holds of the address and of 3FF holds of the address after it.
 pub acted-address : (P : Address → Type 0) (d : Defaults) (m : Message) (l : Lamp) → P noAddress → P (l .address)
     → P (acted d m l .address)
-unfolding acted changed
 acted-address P d m l z h =
-    let n = m .number in
-    let Q : Lamp → Type 0 = λ (x : Lamp). P (x .address) in
-    either Q (obeys n (l .state))
-    (either Q (eqb n 0x00) z
-    (either Q (eqb n 0x01) h
-    (either Q (eqb n 0x04) h
-    (either Q (eqb n 0x05) h
-    (either Q (eqb n 0x06) h
-    (either Q (eqb n 0x0D) h
-    (either Q (eqb n 0x40) h
-    (either Q (eqb n 0x42) h
-    (either Q (eqb n 0x4B) h
-    (either Q (eqb n 0x4D) h
-    (either Q (eqb n 0x4F) h
-    h)))))))))))
-    h
+    acted-cases (λ (x : Lamp). P (x .address)) d m l
+    (record {
+      stays = h;
+      resets = λ e. z;
+      clears = h;
+      goes = λ s. h;
+      groups = λ e. h;
+      thresholds = λ e. h;
+      setup = λ e. h;
+      pwm = λ e. h;
+    })
 
 -- The address c of a lamp to which init gave s: that one, or none since a RESET.
 abbrev pub Home : ℕ → Address → Type 0

@@ -31,14 +31,18 @@ countRight n = leb 1 n && leb n 1007
 abbrev pub addressRight : ℕ → Bool
 addressRight a = eqb a (noAddress .0) || (leb 1 a && leb a 0x3EF)
 
--- Each lamp has such an address; two lamps with the same one are valid.
-abbrev pub addressesRight : List Lamp → Bool
-addressesRight [] = true
-addressesRight (x ∷ xs) = addressRight (x .address .0) && addressesRight xs
+-- A valid lamp has such an address; its other fields have no value outside their range.
+abbrev pub lampRight : Lamp → Bool
+lampRight l = addressRight (l .address .0)
 
--- A valid chain: its count and each stored address are right.
+-- Each lamp is valid; two lamps with the same address are.
+abbrev pub lampsRight : List Lamp → Bool
+lampsRight [] = true
+lampsRight (x ∷ xs) = lampRight x && lampsRight xs
+
+-- A valid chain: its count is right and each lamp is valid.
 unfoldable pub chainRight : Chain → Bool
-chainRight c = countRight (length (c .lamps)) && addressesRight (c .lamps)
+chainRight c = countRight (length (c .lamps)) && lampsRight (c .lamps)
 
 -- Fresh lamps: temperature 0, everything else as RESET leaves it.
 unfoldable pub fresh : ℕ → Defaults → Chain

@@ -11,7 +11,7 @@ use borrow.Author.Tests.{le-leb, lt-leb, ne-eqb, eqb-true}
 use Rattle.checksum.proofs.Below.{below}
 use Rattle.telegram.specs.Numbers.{Outcome, refused, done}
 use Rattle.telegram.proofs.Outcomes.{done-one}
-use Rattle.table.specs.Table.{row, rowOf, payloadFits, fitsRow, sizeRight, payloadSizeOf, answerSizeOf}
+use Rattle.table.specs.Table.{row, rowOf, payloadFits, fitsRow, sizeRight, answerSizeOf}
 use Rattle.table.specs.declared.Casts.the-variants.{All, First}
 use Rattle.table.specs.declared.Row.{Row}
 use Rattle.table.proofs.Keys.{member, NoneOf, elsewhere}
@@ -93,12 +93,6 @@ in-row (done r) x h = (r, (refl, h))
 
 pub right-row : (n x : ℕ) → sizeRight n x ≡ true → (r : Row) × ((rowOf n ≡ done r) × (payloadFits r x ≡ true))
 right-row n x h = in-row (rowOf n) x h
-
--- A size that is right is the one that the row has for its payload.
-pub right-payload : (n x : ℕ) → sizeRight n x ≡ true → payloadSizeOf n ≡ done x
-right-payload n x h =
-    let g = right-row n x h in
-    simp (g .1 .0) (ap done (sym (eqb-true x (g .0 .payload) (g .1 .1))))
 
 -- The size that a number's row takes is right for the number.
 pub row-right : (n x : ℕ) (r : Row) → rowOf n ≡ done r → payloadFits r x ≡ true → sizeRight n x ≡ true

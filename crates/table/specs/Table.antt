@@ -69,10 +69,6 @@ fitsRow (refused n) size = false
 abbrev pub sizeRight : ℕ → ℕ → Bool
 sizeRight n size = fitsRow (rowOf n) size
 
--- How many bytes the table has for the payload of a number.
-abbrev pub payloadSizeOf : ℕ → Outcome ℕ
-payloadSizeOf n = after (rowOf n) (λ (r : Row). done (r .payload))
-
 -- How many bytes the table has for the answer to a number.
 abbrev pub answerSizeOf : ℕ → Outcome ℕ
 answerSizeOf n = after (rowOf n) (λ (r : Row). done (r .answer))

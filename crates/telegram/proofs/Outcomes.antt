@@ -17,6 +17,10 @@ never e = let z : _≡_ {A = ℕ} 0 1 = cc in omega arith
 pub done-one : {A : Type 0} {a b : A} → _≡_ {A = Outcome A} (done a) (done b) → a ≡ b
 done-one e = cc
 
+-- What is refused is refused with one number.
+pub refused-one : {A : Type 0} {m n : ℕ} → _≡_ {A = Outcome A} (refused m) (refused n) → m ≡ n
+refused-one e = cc
+
 -- A test that did not refuse did not hold, and the rest is done.
 pub passed : {A : Type 0} (b : Bool) (n : ℕ) (rest : Outcome A) {a : A} → refuse b n rest ≡ done a → (b ≡ false) × (rest ≡ done a)
 passed true n rest e = absurd (never e)

@@ -5,7 +5,7 @@ use native.Mathlib.Omega.{arith}
 use borrow.Author.Tests.{not-true, not-false}
 use Rattle.telegram.specs.Numbers.{done}
 use Rattle.chain.specs.Record.{chainIn, decode}
-use Rattle.chain.proofs.Records.{Valid, chain-in}
+use Rattle.chain.proofs.Validity.{Valid, chain-in}
 use Rattle.chain.proofs.Exits.{chain-yes, chain-no, read-invalid, read-nowhere, read-done}
 use borrow.Author.Needs.{needs}
 use Rattle.chain.proofs.read_lamp.Statement.{statement}

@@ -5,7 +5,8 @@ use native.Mathlib.Omega.{arith}
 use borrow.Author.Tests.{not-true, not-false}
 use Rattle.telegram.specs.Numbers.{done}
 use Rattle.chain.specs.Record.{chainIn, decode}
-use Rattle.chain.proofs.Records.{Valid, chain-in, hold-set}
+use Rattle.chain.proofs.Validity.{Valid, chain-in}
+use Rattle.chain.proofs.Records.{hold-set}
 use Rattle.chain.proofs.Exits.{chain-yes, chain-no, held-refused, held-done, sense-invalid, sense-nowhere, sense-range, sense-done}
 use borrow.Author.Needs.{needs}
 use Rattle.chain.proofs.sense.Statement.{statement}
