@@ -10,6 +10,7 @@ pub mod Responding
 pub mod Inits
 pub mod Delivering
 pub mod Lengths
+pub mod Results
 pub mod Calling
 pub mod InMemory
 pub mod Contracts

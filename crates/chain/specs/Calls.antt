@@ -148,3 +148,7 @@ NobodysChangeNothingInMemory =
     → Nobodys n a (dissecting (i .telegram))
     → Delivers (lastMemory mem rs) i r
     → (r .memory ≡ lastMemory mem rs) × (heard r ≡ unanswered (dissecting (i .telegram)) (length (i .room)))
+
+-- What is said of calls is said of something: on every memory, for every list of calls, there are results that keep the contract.
+unfoldable pub EveryListHasResults : Type 0
+EveryListHasResults = (mem : List ℕ) (ks : List Call) → (rs : List Returned) × Calls mem ks rs

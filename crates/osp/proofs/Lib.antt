@@ -2,3 +2,4 @@ pub mod Giving
 pub mod Directing
 pub mod BuildPwm
 pub mod ChainCalls
+pub mod AsRun
