@@ -2,40 +2,58 @@
 // function takes every argument, so that callers have nothing to show.
 pub mod reading;
 
+ghost use mathlib.Core.Path.{_≡_};
+ghost use mathlib.Core.Bool.{cond};
+ghost use mathlib.Core.List.{[], _∷_, _++_, map};
+ghost use Prim.Native.Nat.{_+_, _-_, _/_, _%_, min};
+ghost use lib.Dec.{eqb};
+ghost use lib.ListN.{length, take, drop, getD, replicate};
 ghost use Rattle.io.specs.Counts.{Counts};
+ghost use Rattle.text.specs.Putting.{text, appended, appendedAll, spaces, hexDigit, inHex, spacedHex, decimal, emptyPlaces, inFive};
 
 // The number nearest to n that counts bytes at the start of s.
 pub fn within(n: usize, s: &[u8]) -> usize
     ensures { λ r. ⌜ Counts r (now (s .entry)) ⌝ }
+    ensures { λ r. ⌜ r ≡ min n (length (now (s .entry))) ⌝ }
 {
     let most = s.len();
     if n < most { n } else { most }
 }
 
 // The first n bytes; all where there are not so many.
-pub fn first(s: &[u8], n: usize) -> &[u8] {
+pub fn first(s: &[u8], n: usize) -> &[u8]
+    ensures { λ r. ⌜ now r ≡ take n (now (s .entry)) ⌝ }
+{
     let k = within(n, s);
     &s[..k]
 }
 
 // The bytes from an index on; none where there are not so many.
-pub fn from(s: &[u8], at: usize) -> &[u8] {
+pub fn from(s: &[u8], at: usize) -> &[u8]
+    ensures { λ r. ⌜ now r ≡ drop at (now (s .entry)) ⌝ }
+{
     let k = within(at, s);
     &s[k..]
 }
 
 // The bytes from an index up to another.
-pub fn part(s: &[u8], at: usize, end: usize) -> &[u8] {
+pub fn part(s: &[u8], at: usize, end: usize) -> &[u8]
+    ensures { λ r. ⌜ now r ≡ drop at (take end (now (s .entry))) ⌝ }
+{
     from(first(s, end), at)
 }
 
 // The byte at an index, 0 where there is none.
-pub fn byte_at(s: &[u8], i: usize) -> u8 {
+pub fn byte_at(s: &[u8], i: usize) -> u8
+    ensures { λ r. ⌜ r ≡ getD (now (s .entry)) i 0 ⌝ }
+{
     if i < s.len() { s[i] } else { 0 }
 }
 
 // Appends a word: `at` bytes are used before it, and the answer says how many are used then.
-pub fn put(out: &mut [u8], at: usize, word: &[u8]) -> usize {
+pub fn put(out: &mut [u8], at: usize, word: &[u8]) -> usize
+    ensures { λ r. ⌜ text r (now (out .exit)) ≡ appended (now (word .entry)) (text at (now (out .entry))) ⌝ }
+{
     let room = out.len();
     if room < at {
         return at;
@@ -49,7 +67,9 @@ pub fn put(out: &mut [u8], at: usize, word: &[u8]) -> usize {
 }
 
 // Appends a character.
-pub fn put_byte(out: &mut [u8], at: usize, b: u8) -> usize {
+pub fn put_byte(out: &mut [u8], at: usize, b: u8) -> usize
+    ensures { λ r. ⌜ text r (now (out .exit)) ≡ appended (b ∷ []) (text at (now (out .entry))) ⌝ }
+{
     if at < out.len() {
         out[at] = b;
         return at + 1;
@@ -58,7 +78,9 @@ pub fn put_byte(out: &mut [u8], at: usize, b: u8) -> usize {
 }
 
 // Appends a character n times.
-pub fn put_times(out: &mut [u8], at: usize, b: u8, n: usize) -> usize {
+pub fn put_times(out: &mut [u8], at: usize, b: u8, n: usize) -> usize
+    ensures { λ r. ⌜ text r (now (out .exit)) ≡ appendedAll (replicate n (b ∷ [])) (text at (now (out .entry))) ⌝ }
+{
     let mut a = at;
     let mut i = 0;
     while i < n {
@@ -69,28 +91,39 @@ pub fn put_times(out: &mut [u8], at: usize, b: u8, n: usize) -> usize {
 }
 
 // Appends spaces up to a column, of which the line began at `start`; at most 64.
-pub fn put_spaces(out: &mut [u8], at: usize, start: usize, column: usize) -> usize {
+pub fn put_spaces(out: &mut [u8], at: usize, start: usize, column: usize) -> usize
+    ensures { λ r. ⌜ text r (now (out .exit)) ≡ appended (spaces (column - (at - start))) (text at (now (out .entry))) ⌝ }
+{
     let spaces = b"                                                                ";
-    let used = std::num::wrapping_sub_usize(at, start);
-    if column < used {
-        return at;
-    }
-    put(out, at, first(spaces, column - used))
+    put(out, at, first(spaces, less(column, less(at, start))))
+}
+
+// The first number less the second, 0 where the second is larger.
+fn less(a: usize, b: usize) -> usize
+    ensures { λ r. ⌜ r ≡ a - b ⌝ }
+{
+    if a < b { 0 } else { a - b }
 }
 
 // The character of a number below 16.
-pub fn digit(n: u8) -> u8 {
+pub fn digit(n: u8) -> u8
+    ensures { λ r. ⌜ r ≡ hexDigit n ⌝ }
+{
     let d = n % 16;
     if d < 10 { b'0' + d } else { b'A' - 10 + d }
 }
 
 // Appends a byte in hex.
-pub fn put_hex(out: &mut [u8], at: usize, b: u8) -> usize {
+pub fn put_hex(out: &mut [u8], at: usize, b: u8) -> usize
+    ensures { λ r. ⌜ text r (now (out .exit)) ≡ appended (inHex b) (text at (now (out .entry))) ⌝ }
+{
     put(out, at, &[digit(b / 16), digit(b)])
 }
 
 // The four hex digits of a word, with a space before them.
-pub fn hex_five(n: u16) -> [u8; 5] {
+pub fn hex_five(n: u16) -> [u8; 5]
+    ensures { λ r. ⌜ r ≡ 32 ∷ (inHex (n / 256) ++ inHex (n % 256)) ⌝ }
+{
     let high = bits::high(n);
     let low = bits::low(n);
     [
@@ -103,7 +136,9 @@ pub fn hex_five(n: u16) -> [u8; 5] {
 }
 
 // How many of five places a number leaves empty.
-fn empty_places(n: u16) -> usize {
+fn empty_places(n: u16) -> usize
+    ensures { λ r. ⌜ r ≡ emptyPlaces n ⌝ }
+{
     match n {
         0..=9 => 4,
         10..=99 => 3,
@@ -114,7 +149,9 @@ fn empty_places(n: u16) -> usize {
 }
 
 // Appends a number in decimal. One of at most five digits is the most frequent.
-pub fn put_decimal(out: &mut [u8], at: usize, n: u64) -> usize {
+pub fn put_decimal(out: &mut [u8], at: usize, n: u64) -> usize
+    ensures { λ r. ⌜ text r (now (out .exit)) ≡ appended (decimal n) (text at (now (out .entry))) ⌝ }
+{
     if n < 65536 {
         let short = five(n as u16);
         return put(out, at, from(&short, empty_places(n as u16)));
@@ -125,7 +162,9 @@ pub fn put_decimal(out: &mut [u8], at: usize, n: u64) -> usize {
 }
 
 // The decimal digits of a number, with spaces before them.
-pub fn five(n: u16) -> [u8; 5] {
+pub fn five(n: u16) -> [u8; 5]
+    ensures { λ r. ⌜ r ≡ inFive n ⌝ }
+{
     [
         leading(n / 10000),
         leading(n / 1000),
@@ -136,16 +175,22 @@ pub fn five(n: u16) -> [u8; 5] {
 }
 
 // The last digit of a number, or a space for 0.
-fn leading(n: u16) -> u8 {
+fn leading(n: u16) -> u8
+    ensures { λ r. ⌜ r ≡ cond (eqb n 0) 32 (48 + n % 10) ⌝ }
+{
     if n == 0 { b' ' } else { last_digit(n) }
 }
 
-fn last_digit(n: u16) -> u8 {
+fn last_digit(n: u16) -> u8
+    ensures { λ r. ⌜ r ≡ 48 + n % 10 ⌝ }
+{
     b'0' + (n % 10) as u8
 }
 
 // Appends each byte in hex.
-pub fn put_all_hex(out: &mut [u8], at: usize, s: &[u8]) -> usize {
+pub fn put_all_hex(out: &mut [u8], at: usize, s: &[u8]) -> usize
+    ensures { λ r. ⌜ text r (now (out .exit)) ≡ appendedAll (map inHex (now (s .entry))) (text at (now (out .entry))) ⌝ }
+{
     let mut a = at;
     let mut i = 0;
     while i < s.len() {
@@ -156,7 +201,9 @@ pub fn put_all_hex(out: &mut [u8], at: usize, s: &[u8]) -> usize {
 }
 
 // Appends each byte in hex with a space before it.
-pub fn put_spaced_hex(out: &mut [u8], at: usize, s: &[u8]) -> usize {
+pub fn put_spaced_hex(out: &mut [u8], at: usize, s: &[u8]) -> usize
+    ensures { λ r. ⌜ text r (now (out .exit)) ≡ appendedAll (map spacedHex (now (s .entry))) (text at (now (out .entry))) ⌝ }
+{
     let mut a = at;
     let mut i = 0;
     while i < s.len() {
@@ -166,7 +213,9 @@ pub fn put_spaced_hex(out: &mut [u8], at: usize, s: &[u8]) -> usize {
     a
 }
 
-fn put_next(out: &mut [u8], at: usize, b: u8) -> usize {
+fn put_next(out: &mut [u8], at: usize, b: u8) -> usize
+    ensures { λ r. ⌜ text r (now (out .exit)) ≡ appended (spacedHex b) (text at (now (out .entry))) ⌝ }
+{
     let room = out.len();
     if room < at {
         return at;

@@ -1,4 +1,8 @@
 // Words, numbers and hex read from a line. Words are separated by spaces, tabs and carriage returns.
+ghost use mathlib.Core.Path.{_≡_};
+ghost use mathlib.Core.List.{map};
+ghost use lib.ListN.{set};
+ghost use Rattle.text.specs.Putting.{text, appendedAll, unseparated, argument};
 
 // Where a word stands in a line.
 pub struct Span {
@@ -55,7 +59,10 @@ fn pair_at(s: &[u8], i: usize) -> u16 {
     pair_value(s[i], s[i + 1])
 }
 
-fn store(bytes: &mut [u8], i: usize, b: u8) {
+// Stores a byte at an index; nothing where there is none.
+fn store(bytes: &mut [u8], i: usize, b: u8)
+    ensures { λ _. ⌜ now (bytes .exit) ≡ set (now (bytes .entry)) i b ⌝ }
+{
     if i < bytes.len() {
         bytes[i] = b;
     }
@@ -210,12 +217,16 @@ pub fn byte_of(s: &[u8]) -> Number {
 }
 
 // A byte 0, which separates arguments, as a space.
-fn unseparated(b: u8) -> u8 {
+fn unseparated(b: u8) -> u8
+    ensures { λ r. ⌜ r ≡ unseparated b ⌝ }
+{
     if b == 0 { b' ' } else { b }
 }
 
 // Appends arguments as words of a line.
-pub fn put_arguments(out: &mut [u8], at: usize, arguments: &[u8]) -> usize {
+pub fn put_arguments(out: &mut [u8], at: usize, arguments: &[u8]) -> usize
+    ensures { λ r. ⌜ text r (now (out .exit)) ≡ appendedAll (map argument (now (arguments .entry))) (text at (now (out .entry))) ⌝ }
+{
     let mut a = at;
     let mut i = 0;
     while i < arguments.len() {

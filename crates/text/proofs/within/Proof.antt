@@ -7,4 +7,7 @@ use Rattle.text.proofs.within.Tie as tie
 
 pub within-spec : {M : Type 1} → statement M
 within-spec =
-    tie.close (tie.spec (λ c. (omega arith, simp length-take (omega arith))) (λ c. (omega arith, simp length-take (omega arith))))
+    tie.close
+    (tie.spec
+    (λ c. ((omega arith, simp length-take (omega arith)), omega arith))
+    (λ c. ((omega arith, simp length-take (omega arith)), omega arith)))

@@ -1,0 +1,4 @@
+pub mod Order
+pub mod Parts
+pub mod Appending
+pub mod Decimal
