@@ -9,8 +9,9 @@ pub mod Exits
 pub mod Responding
 pub mod Inits
 pub mod Delivering
+pub mod Calling
+pub mod Replies
 pub mod Lengths
 pub mod Results
-pub mod Calling
 pub mod InMemory
 pub mod Contracts

@@ -2,8 +2,10 @@
 -- Assumes nothing.
 use Prim.Native.Nat.{ℕ, suc, _+_, _-_}
 use mathlib.Core.Path.{_≡_, refl, sym, ap}
+use mathlib.Core.Logic.{_⊎_, inl, inr}
 use mathlib.Core.Bool.{Bool, true, false, cond, not}
 use mathlib.Core.List.{List, [], _∷_}
+use native.Mathlib.Omega.{arith}
 use lib.Dec.{eqb, leb, ltb}
 use lib.ListN.{length}
 use Rattle.telegram.specs.declared.Refusal.{Refusal}
@@ -19,9 +21,9 @@ use Rattle.table.specs.declared.Cast.the-variants.{Everyone, One, Group}
 use Rattle.command.specs.Commands.{Sent, naming, dissecting}
 use Rattle.rules.specs.declared.Defaults.{Defaults}
 use Rattle.rules.specs.declared.Lamp.{Lamp}
-use Rattle.rules.specs.Chain.{Chain, Walked, countRight, lampsRight, anyUnaddressed, reaching, isInit, lastAnswers, initialising, visiting, permittingInit, permitting, taken, responding, roomSmall, delivering, deliver, making}
+use Rattle.rules.specs.Chain.{Chain, Walked, walk, countRight, lampsRight, anyUnaddressed, reaching, isInit, lastAnswers, initialising, visiting, permittingInit, permitting, taken, responding, roomSmall, delivering, deliver, making}
 use Rattle.rules.specs.Lamp.{numberedAs, withCE}
-use Rattle.rules.proofs.Walks.{either, Ending, walk-outcome}
+use Rattle.rules.proofs.Walks.{either, Ending, Ended, walk-ended}
 use Rattle.chain.specs.Record.{headerSize, recordLength, countOf, decode, chainIn}
 use Rattle.chain.specs.declared.Delivered.{Delivered}
 use Rattle.chain.specs.declared.Delivered.the-variants.{Done, Refused}
@@ -102,29 +104,37 @@ permitting-answerable xs t = either (λ (o : Outcome Sent). Answerable o) (isIni
     by (Group g) = (told CastNotAllowed refl)
 
 -- A walk is always done: each visit that ends it ends it so.
-last-answerable : (b : Bool) (a n : ℕ) (x : Lamp) → Ending Answerable (lastAnswers b a n x)
-last-answerable true a n x = well _ refl
-last-answerable false a n x = tt
+abbrev Ends : Lamp → Outcome (List ℕ) → Type 0
+Ends y o = Answerable o
 
-visiting-answerable : (d : Defaults) (n : ℕ) (t : Sent) (p : ℕ) (x : Lamp) → Ending Answerable (visiting d n t p x)
+last-done : (b : Bool) (a n : ℕ) (x : Lamp) → Ending Ends (lastAnswers b a n x)
+last-done true a n x = well _ refl
+last-done false a n x = tt
+
+visiting-done : (d : Defaults) (n : ℕ) (t : Sent) (p : ℕ) (x : Lamp) → Ending Ends (visiting d n t p x)
 unfolding visiting
-visiting-answerable d n t p x = go (isInit k) (t .cast)
+visiting-done d n t p x = go (isInit k) (t .cast)
   where
     k : ℕ
     k = t .message .number
 
-    go : (b : Bool) (cast : Cast) → Ending Answerable (cond b (initialising n k cast) (reaching d (t .message) cast) p x)
-    go true Everyone = last-answerable (eqb (suc p) n) 0 k (cond (eqb k 0x02) (withCE x) x)
-    go true (One a) = last-answerable (eqb (suc p) n) (a .0 + p) k (numberedAs k (a .0 + p) x)
+    go : (b : Bool) (cast : Cast) → Ending Ends (cond b (initialising n k cast) (reaching d (t .message) cast) p x)
+    go true Everyone = last-done (eqb (suc p) n) 0 k (cond (eqb k 0x02) (withCE x) x)
+    go true (One a) = last-done (eqb (suc p) n) (a .0 + p) k (numberedAs k (a .0 + p) x)
     go true (Group g) = tt
     go false Everyone = tt
-    go false (One a) = either (Ending Answerable) (eqb (x .address .0) (a .0)) (well _ refl) tt
+    go false (One a) = either (Ending Ends) (eqb (x .address .0) (a .0)) (well _ refl) tt
     go false (Group g) = tt
 
 taken-answerable : (d : Defaults) (xs : List Lamp) (o : Outcome Sent) → Answerable o → Answerable (taken d xs o .outcome)
 taken-answerable d xs (refused n) (well t q) = absurd (never q)
 taken-answerable d xs (refused n) (told e q) = told e (ap refused (refused-one q))
-taken-answerable d xs (done t) h = walk-outcome Answerable (visiting d (length xs) t) (well _ refl) (visiting-answerable d (length xs) t) 0 xs
+taken-answerable d xs (done t) h =
+    go (walk-ended Ends (visiting d (length xs) t) (length xs) (λ p x l. visiting-done d (length xs) t p x) 0 xs (omega arith))
+  where
+    go : Ended Ends (walk (visiting d (length xs) t) 0 xs) → Answerable (walk (visiting d (length xs) t) 0 xs .outcome)
+    go (inl e) = well [] e
+    go (inr r) = r .1 .1 .1
 
 delivering-answerable : (d : Defaults) (xs : List Lamp) (s : List ℕ) (room : ℕ) → Answerable (delivering d xs (dissecting s) room .outcome)
 unfolding delivering responding

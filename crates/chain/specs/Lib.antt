@@ -3,3 +3,4 @@ pub mod Memory
 pub mod Calls
 pub mod Places
 pub mod Helpers
+pub mod Replies

@@ -1,6 +1,5 @@
 // A chain of lamps in lent bytes (docs/RECORD.md): made, given telegrams and sensor reports, read out. Document 01, "A lamp and the
 // chain".
-
 mod change;
 mod delivery;
 mod init;

@@ -29,7 +29,7 @@ pub(crate) fn slot_at(p: Place) -> usize
 }
 
 // The slot of a place.
-pub(crate) fn slot_bytes(mem: &[u8], p: Place) -> [u8; slot::SIZE]
+fn slot_bytes(mem: &[u8], p: Place) -> [u8; slot::SIZE]
     requires { ⌜ slotAt (p .0) + slotSize ≤ length (now mem) ⌝ }
     ensures { λ r. ⌜ r ≡ take slotSize (drop (slotAt (p .0)) (now (mem .entry))) ⌝ }
 {

@@ -9,15 +9,21 @@ ghost use lib.Dec.{leb};
 ghost use Rattle.command.specs.Fields.{octets, word as word_layout, pwm as pwm_layout, modeOf, pwmFields};
 ghost use Rattle.command.specs.Commands.{numbered, partsBy};
 
-// The PWM word of two bytes, high byte first.
-pub fn pwm_from(high: u8, low: u8) -> Pwm
-    ensures { λ r. ⌜ (modeOf r ≡ (high * 256 + low) / 32768) × (r .duty ≡ (high * 256 + low) % 32768) ⌝ }
+// A PWM word taken apart.
+pub fn pwm_of(w: u16) -> Pwm
+    ensures { λ r. ⌜ (modeOf r ≡ w / 32768) × (r .duty ≡ w % 32768) ⌝ }
 {
-    let w = bits::word(high, low);
     Pwm {
         day: 32768 <= w,
         duty: w % 32768,
     }
+}
+
+// The PWM word of two bytes, high byte first.
+pub fn pwm_from(high: u8, low: u8) -> Pwm
+    ensures { λ r. ⌜ (modeOf r ≡ (high * 256 + low) / 32768) × (r .duty ≡ (high * 256 + low) % 32768) ⌝ }
+{
+    pwm_of(bits::word(high, low))
 }
 
 // A message with no field.

@@ -2,16 +2,20 @@
 -- Assumes nothing.
 use mathlib.Core.Path.{_≡_, _∙_, refl, ap}
 use mathlib.Core.Bool.{true}
-use mathlib.Core.List.{List}
+use mathlib.Core.List.{List, [], _∷_}
 use Prim.Native.Nat.{ℕ, _≤_}
 use native.Mathlib.Omega.{arith}
 use lib.Dec.{eqb}
 use lib.ListN.{length, take, length-append}
 use lib.Seq.{take-at}
+use borrow.Author.Tests.{eqb-true}
+use Rattle.telegram.specs.Numbers.{done}
 use Rattle.telegram.specs.Telegram.{listed}
+use Rattle.table.specs.Table.{rowOf, answerSizeOf}
+use Rattle.table.proofs.Table.{answer-listed}
 use Rattle.rules.specs.declared.Lamp.{Lamp}
 use Rattle.rules.specs.Lamp.{obeys, told, answered}
-use Rattle.rules.proofs.Walks.{either}
+use Rattle.rules.proofs.Walks.{where-true, either}
 use Rattle.lamp.specs.declared.Payload.{Payload}
 use Rattle.lamp.specs.Reactions.{padded}
 
@@ -29,19 +33,34 @@ handed p x e =
       within = rw e (simp length-append (omega arith));
     }
 
--- An answer has as many bytes as a telegram may carry.
+-- Bytes that answer a number: none, or as many as the table has for it.
+abbrev pub Sized : ℕ → List ℕ → Type 0
+Sized n [] = Unit {0}
+Sized n (x ∷ xs) = answerSizeOf n ≡ done (length (x ∷ xs))
+
+-- What a lamp answers is so.
+pub answered-sized : (n : ℕ) (l : Lamp) → Sized n (answered n l)
+unfolding answered told rowOf
+answered-sized n l =
+    either (Sized n) (obeys n (l .state))
+    (where-true (Sized n) (eqb n 0x07) (size 0x07 refl)
+    (where-true (Sized n) (eqb n 0x0C) (size 0x0C refl)
+    (where-true (Sized n) (eqb n 0x40) (size 0x40 refl)
+    (where-true (Sized n) (eqb n 0x42) (size 0x42 refl)
+    (where-true (Sized n) (eqb n 0x48) (size 0x48 refl)
+    (where-true (Sized n) (eqb n 0x4A) (size 0x4A refl)
+    (where-true (Sized n) (eqb n 0x4C) (size 0x4C refl)
+    (where-true (Sized n) (eqb n 0x4E) (size 0x4E refl)
+    tt))))))))
+    tt
+  where
+    size : {j : ℕ} (k : ℕ) → answerSizeOf k ≡ done j → eqb n k ≡ true → answerSizeOf n ≡ done j
+    size k s e = ap answerSizeOf (eqb-true n k e) ∙ s
+
+-- So an answer has as many bytes as a telegram may carry.
 pub answered-listed : (n : ℕ) (l : Lamp) → listed (length (answered n l)) ≡ true
-unfolding answered told
-answered-listed n l =
-    let P : List ℕ → Type 0 = λ (p : List ℕ). listed (length p) ≡ true in
-    either P (obeys n (l .state))
-    (either P (eqb n 0x07) refl
-    (either P (eqb n 0x0C) refl
-    (either P (eqb n 0x40) refl
-    (either P (eqb n 0x42) refl
-    (either P (eqb n 0x48) refl
-    (either P (eqb n 0x4A) refl
-    (either P (eqb n 0x4C) refl
-    (either P (eqb n 0x4E) refl
-    refl))))))))
-    refl
+answered-listed n l = go (answered n l) (answered-sized n l)
+  where
+    go : (p : List ℕ) → Sized n p → listed (length p) ≡ true
+    go [] s = refl
+    go (x ∷ xs) s = answer-listed n (length (x ∷ xs)) s .1

@@ -59,6 +59,17 @@ module _ (d : Defaults) (xs : List Lamp) (room : ℕ) (t : Sent) where
   unfolding delivering responding
   permitted-walks small h = simp (small, h)
 
+-- Only what the dissector accepted is done.
+pub accepted-sent : (d : Defaults) (xs : List Lamp) (o : Outcome Sent) (room : ℕ) {answer : List ℕ}
+    → delivering d xs o room .outcome ≡ done answer → (t : Sent) × (o ≡ done t)
+unfolding delivering responding
+accepted-sent d xs (refused n) room {answer} e = absurd (go (roomSmall room) e)
+  where
+    go : (b : Bool) → cond b (record { lamps = xs; outcome = refused 9 }) (taken d xs (refused n)) .outcome ≡ done answer → ⊥
+    go true k = never k
+    go false k = never k
+accepted-sent d xs (done t) room e = (t, refl)
+
 -- What a delivery that is done has behind it.
 pub record Delivered (d : Defaults) (xs : List Lamp) (t : Sent) (room : ℕ) : Type 0 where
   pub enough : 12 ≤ room

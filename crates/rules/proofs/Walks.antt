@@ -1,4 +1,4 @@
--- The walk of a telegram along the lamps: what it keeps, and the walk of a telegram for one address.
+-- The walk of a telegram along the lamps: what it keeps, where it ended, and the walk of a telegram for one address.
 -- Assumes nothing.
 use Prim.Native.Nat.{ℕ, zero, suc, _+_, _≤_, _<_}
 use native.Mathlib.Omega.{arith}
@@ -85,20 +85,27 @@ pub walk-each : (P : ℕ → Lamp → Type 0) (visit : ℕ → Lamp → Step) (n
 walk-each P visit n keeps p xs l =
     kept-each P p xs (walk visit p xs .lamps) (walk-became (λ (q : ℕ) (x y : Lamp). P q x → P q y) visit n (λ q x h. h) keeps p xs l)
 
--- A step that goes on, or that ends with an outcome of which Q holds.
-abbrev pub Ending : (Outcome (List ℕ) → Type 0) → Step → Type 0
-Ending Q (onward y) = Unit {0}
-Ending Q (ends y o) = Q o
+-- Where a visit ends, P holds of the lamp that it leaves and of the outcome.
+abbrev pub Ending : (Lamp → Outcome (List ℕ) → Type 0) → Step → Type 0
+Ending P (onward y) = Unit {0}
+Ending P (ends y o) = P y o
 
--- What holds of no answer and of each outcome with which a visit ends holds of the outcome of a walk.
-pub walk-outcome : (Q : Outcome (List ℕ) → Type 0) (visit : ℕ → Lamp → Step) → Q (done []) → ((p : ℕ) (x : Lamp) → Ending Q (visit p x))
-    → (p : ℕ) (xs : List Lamp) → Q (walk visit p xs .outcome)
-walk-outcome Q visit none visits p [] = none
-walk-outcome Q visit none visits p (x ∷ xs) = go (visit p x) (visits p x) (walk-outcome Q visit none visits (suc p) xs)
+-- A walk is done without an answer, or P holds of a lamp that it leaves and of its outcome.
+abbrev pub Ended : (Lamp → Outcome (List ℕ) → Type 0) → Walked → Type 0
+Ended P w = (w .outcome ≡ done []) ⊎ ((q : ℕ) × ((y : Lamp) × ((lampIn (w .lamps) q ≡ done y) × P y (w .outcome))))
+
+-- What holds where a visit ends, at each of n places, holds where a walk ended.
+pub walk-ended : (P : Lamp → Outcome (List ℕ) → Type 0) (visit : ℕ → Lamp → Step) (n : ℕ)
+    → ((p : ℕ) (x : Lamp) → p < n → Ending P (visit p x))
+    → (p : ℕ) (xs : List Lamp) → p + length xs ≤ n → Ended P (walk visit p xs)
+walk-ended P visit n visits p [] l = inl refl
+walk-ended P visit n visits p (x ∷ xs) l =
+    go (visit p x) (visits p x (omega arith)) (walk-ended P visit n visits (suc p) xs (omega arith))
   where
-    go : (s : Step) → Ending Q s → Q (walk visit (suc p) xs .outcome) → Q (stepped s xs (walk visit (suc p) xs) .outcome)
-    go (onward y) h ih = ih
-    go (ends y o) h ih = h
+    go : (s : Step) → Ending P s → Ended P (walk visit (suc p) xs) → Ended P (stepped s xs (walk visit (suc p) xs))
+    go (onward y) h (inl e) = inl e
+    go (onward y) h (inr r) = inr (suc (r .0), r .1)
+    go (ends y o) h ih = inr (0, (y, (refl, h)))
 
 -- What holds of both holds of the one that a test picks; of the first it is asked only where the test is true.
 pub where-true : {A : Type 0} {x y : A} (P : A → Type 0) (b : Bool) → (b ≡ true → P x) → P y → P (cond b x y)
@@ -139,14 +146,15 @@ acted-cases P d m l c =
     (c .stays))))))))))))
     (c .stays)
 
--- A command leaves a lamp's address or takes it away: what holds of the address and of 3FF holds of the address after it.
-pub acted-address : (P : Address → Type 0) (d : Defaults) (m : Message) (l : Lamp) → P noAddress → P (l .address)
+-- A command leaves a lamp's address, and RESET takes it away: what holds of the address, and where that is asked of 3FF, holds of the
+-- address after it.
+pub acted-kept : (P : Address → Type 0) (d : Defaults) (m : Message) (l : Lamp) → (m .number ≡ 0x00 → P noAddress) → P (l .address)
     → P (acted d m l .address)
-acted-address P d m l z h =
+acted-kept P d m l z h =
     acted-cases (λ (x : Lamp). P (x .address)) d m l
     (record {
       stays = h;
-      resets = λ e. z;
+      resets = z;
       clears = h;
       goes = λ s. h;
       groups = λ e. h;
@@ -154,6 +162,10 @@ acted-address P d m l z h =
       setup = λ e. h;
       pwm = λ e. h;
     })
+
+pub acted-address : (P : Address → Type 0) (d : Defaults) (m : Message) (l : Lamp) → P noAddress → P (l .address)
+    → P (acted d m l .address)
+acted-address P d m l z h = acted-kept P d m l (λ e. z) h
 
 -- The address c of a lamp to which init gave s: that one, or none since a RESET.
 abbrev pub Home : ℕ → Address → Type 0

@@ -1,16 +1,17 @@
--- The table of commands: its rows by ranges, and the numbers that it has not.
+-- The table of commands: its rows by ranges, the numbers that it has not, and the sizes that it has for payloads and answers.
 -- Assumes nothing.
 use mathlib.Core.Path.{_≡_, refl, sym, ap, _∙_, subst}
 use mathlib.Core.Bool.{Bool, true, false, _||_}
 use mathlib.Core.List.{List, [], _∷_}
 use Prim.Native.Nat.{ℕ, _+_, _-_, _≤_, _<_}
 use native.Mathlib.Omega.{arith}
-use lib.Dec.{T, leb, eqb, eqb→eq}
+use lib.Dec.{T, leb, ltb, eqb, eqb→eq}
 use lib.ListN.{length, take, drop, length-take, length-drop}
-use borrow.Author.Tests.{le-leb, lt-leb, ne-eqb, eqb-true}
-use Rattle.checksum.proofs.Below.{below}
-use Rattle.telegram.specs.Numbers.{Outcome, refused, done}
-use Rattle.telegram.proofs.Outcomes.{done-one}
+use borrow.Author.Tests.{le-leb, lt-leb, ne-eqb, eqb-true, ltb-true, ltb-false}
+use Rattle.checksum.proofs.Below.{T-true, below, at}
+use Rattle.telegram.specs.Numbers.{Outcome, refused, done, after}
+use Rattle.telegram.specs.Telegram.{listed}
+use Rattle.telegram.proofs.Outcomes.{never, done-one}
 use Rattle.table.specs.Table.{row, rowOf, payloadFits, fitsRow, sizeRight, answerSizeOf}
 use Rattle.table.specs.declared.Casts.the-variants.{All, First}
 use Rattle.table.specs.declared.Row.{Row}
@@ -76,6 +77,22 @@ row-high n h =
   where
     past : (k : ℕ) → k < n → eqb n k ≡ false
     past k l = ne-eqb n k (λ (e : n ≡ k). omega arith)
+
+-- The table's size for an answer, where it has one, is one that a telegram may carry.
+carried : Outcome ℕ → Bool
+carried (refused n) = true
+carried (done k) = listed k
+
+-- A number for whose answer the table has a size is at most 4F, and a telegram may carry that many bytes: one test at each number.
+pub answer-listed : (n k : ℕ) → answerSizeOf n ≡ done k → (n ≤ 0x4F) × (listed k ≡ true)
+unfolding rowOf carried
+answer-listed n k e =
+    let low : n ≤ 0x4F = go (ltb 0x4F n) refl in
+    (low, T-true (listed k) (subst (λ (o : Outcome ℕ). T (carried o)) e (at (λ (m : ℕ). carried (answerSizeOf m)) 0x50 tt n (omega arith))))
+  where
+    go : (b : Bool) → ltb 0x4F n ≡ b → n ≤ 0x4F
+    go true h = absurd (never (ap (λ (o : Outcome Row). after o (λ (r : Row). done (r .answer))) (row-high n (ltb-true 0x4F n h)) ∙ e))
+    go false h = ltb-false 0x4F n h
 
 -- The size that the table has for a number k is the one it has for n, where n is k.
 pub sized : {n k x : ℕ} (size : ℕ → Outcome ℕ) (j : ℕ) → n ≡ k → size k ≡ done j → size n ≡ done x → x ≡ j
