@@ -15,7 +15,7 @@ use Rattle.table.specs.Casts.{castInRange}
 use Rattle.table.proofs.Destinations.{reached as in-range}
 use Rattle.command.specs.Commands.{Sent, dissecting}
 use Rattle.command.proofs.Naming.{named, dissected}
-use Rattle.rules.specs.Chain.{Walked, delivering, deliver, responding}
+use Rattle.rules.specs.Chain.{delivering, deliver, responding}
 use Rattle.chain.specs.Record.{decode, chainIn}
 use Rattle.chain.specs.Places.{heldAfter}
 use Rattle.chain.specs.Memory.{Left, delivered}

@@ -9,24 +9,23 @@ use native.Mathlib.Omega.{arith}
 use lib.Dec.{eqb, ltb}
 use lib.ListN.{length, getD}
 use borrow.Author.Tests.{lt-ltb, le-ltb, ne-eqb}
-use Rattle.telegram.specs.Numbers.{Outcome, refused, done, refuse, counted, front, leaves}
+use Rattle.telegram.specs.Numbers.{Outcome, refused, done, refuse, counted, front}
 use Rattle.telegram.specs.Telegram.{Bytes}
 use Rattle.telegram.specs.declared.Address.{Address}
 use Rattle.telegram.proofs.Outcomes.{never, refused-one, passed}
 use Rattle.table.specs.declared.Cast.{Cast}
 use Rattle.table.specs.declared.Cast.the-variants.{Everyone, One, Group}
-use Rattle.command.specs.Commands.{Message, Sent}
-use Rattle.rules.specs.declared.Defaults.{Defaults}
+use Rattle.command.specs.Commands.{Sent}
 use Rattle.rules.specs.declared.Lamp.{Lamp}
 use Rattle.rules.specs.Lamp.{report, numberedAs, withCE}
-use Rattle.rules.specs.Chain.{withLamps, Step, Walked, walk, isInit, visiting, permittingInit, permitting, anyUnaddressed, taken, responding, answerFrom}
+use Rattle.rules.specs.Chain.{withLamps, Walked, isInit, visiting, permittingInit, permitting, anyUnaddressed, responding, answerFrom}
 use Rattle.chain.specs.Record.{countOf, lampsIn, decode, hold}
 use Rattle.chain.specs.Places.{lampAt, sweep}
 use Rattle.chain.specs.Helpers.{respondedIn, reachedIn, walkedIn, initOf, sentIn}
 use Rattle.chain.proofs.Places.{length-lampsIn}
 use Rattle.chain.proofs.Sweeps.{eachFrom, length-each}
 use Rattle.chain.proofs.Validity.{Valid}
-use Rattle.chain.proofs.Records.{hold-decode, hold-each, hold-at}
+use Rattle.chain.proofs.Records.{hold-each, hold-at}
 use Rattle.chain.proofs.Strides.{walk-init, walk-init-all}
 use Rattle.chain.proofs.Responding.{Walks, walks-done, walks-refused, held-same}
 

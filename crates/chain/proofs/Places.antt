@@ -17,7 +17,7 @@ use Rattle.rules.specs.Lamp.{noAddress}
 use Rattle.telegram.specs.Numbers.{refused, done}
 use Rattle.rules.specs.Chain.{lampRight, lampsRight, anyUnaddressed, lampIn}
 use Rattle.slot.specs.Slot.{slotSize, lampOf, slotOf}
-use Rattle.chain.specs.Record.{headerSize, slotAt, lampsOf, slotsOf, lampsIn, hold}
+use Rattle.chain.specs.Record.{headerSize, slotAt, lampsOf, slotsOf, lampsIn}
 use Rattle.chain.specs.Places.{lampAt, placeFrom}
 use Rattle.chain.specs.declared.Found.the-variants.{At, Nobody}
 use Rattle.slot.proofs.Slots.{slot-length, lamp-slot, slot-lamp}

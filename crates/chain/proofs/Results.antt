@@ -2,7 +2,7 @@
 -- Assumes nothing.
 use Prim.Native.Nat.{ℕ, suc, _+_, _-_}
 use mathlib.Core.Path.{_≡_, refl, sym, ap}
-use mathlib.Core.Logic.{_⊎_, inl, inr}
+use mathlib.Core.Logic.{inl, inr}
 use mathlib.Core.Bool.{Bool, true, false, cond, not}
 use mathlib.Core.List.{List, [], _∷_}
 use native.Mathlib.Omega.{arith}
@@ -27,8 +27,8 @@ use Rattle.rules.proofs.Walks.{either, Ending, Ended, walk-ended}
 use Rattle.chain.specs.Record.{headerSize, recordLength, countOf, decode, chainIn}
 use Rattle.chain.specs.declared.Delivered.{Delivered}
 use Rattle.chain.specs.declared.Delivered.the-variants.{Done, Refused}
-use Rattle.chain.specs.Memory.{deliveredAs, onChain, delivered, held, silent, made}
-use Rattle.chain.specs.Calls.{Call, Returned, Delivers, Calls, EveryListHasResults}
+use Rattle.chain.specs.Memory.{deliveredAs, onChain, delivered, silent, made}
+use Rattle.chain.specs.Calls.{Returned, EveryListHasResults}
 
 -- An outcome that the code can answer with: done, or refused with the number of one of its refusals.
 pub data Answerable {A : Type 0} (o : Outcome A) : Type 0 where

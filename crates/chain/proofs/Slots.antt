@@ -3,17 +3,17 @@
 use mathlib.Core.Path.{_≡_, refl, sym, ap, _∙_}
 use mathlib.Core.Bool.{Bool, true, false, cond}
 use mathlib.Core.List.{List, [], _++_, append-assoc, append-nil}
-use Prim.Native.Nat.{ℕ, _+_, _≤_, _-_}
+use Prim.Native.Nat.{ℕ, _+_, _≤_}
 use native.Mathlib.Omega.{arith}
-use lib.ListN.{length, take, drop, length-append, length-drop, take-append-drop}
-use lib.Seq.{length-take-le, drop-at, drop-drop, getD-drop, take-all, take-length, drop-length}
+use lib.ListN.{length, take, drop, length-drop, take-append-drop}
+use lib.Seq.{length-take-le, drop-drop, getD-drop, take-length, drop-length}
 use Rattle.telegram.specs.Telegram.{Bytes}
 use Rattle.telegram.proofs.Front.{overwritten}
 use Rattle.rules.specs.declared.State.{State}
 use Rattle.rules.specs.declared.Lamp.{Lamp}
 use Rattle.rules.specs.Lamp.{withState}
 use Rattle.slot.specs.Slot.{slotSize, lampOf, slotOf}
-use Rattle.slot.proofs.Slots.{slot-length, lamp-slot, slot-lamp, lamp-front}
+use Rattle.slot.proofs.Slots.{slot-length, slot-lamp, lamp-front}
 use Rattle.chain.specs.Record.{slotAt}
 use Rattle.chain.specs.Places.{lampAt, withLamp}
 
@@ -21,23 +21,7 @@ use Rattle.chain.specs.Places.{lampAt, withLamp}
 pub bytes-drop : (n : ℕ) (s : List ℕ) → Bytes s → Bytes (drop n s)
 bytes-drop n s b i = rw getD-drop (b (n + i))
 
--- A lamp stored leaves the length of memory ..
-pub with-length : (mem : List ℕ) (p : ℕ) (l : Lamp) → slotAt p + slotSize ≤ length mem → length (withLamp mem p l) ≡ length mem
-unfolding withLamp
-with-length mem p l h =
-    let k : slotAt p ≤ length mem = omega arith in
-    simp (length-append, slot-length, length-drop, length-take-le (slotAt p) mem k) (omega arith)
-
--- .. is then at its place ..
-pub with-same : (mem : List ℕ) (p : ℕ) (l : Lamp) → slotAt p ≤ length mem → lampAt (withLamp mem p l) p ≡ l
-unfolding withLamp lampAt
-with-same mem p l h =
-    rw (
-      drop-at (take (slotAt p) mem) (slotOf l ++ drop (slotAt p + slotSize) mem) (slotAt p) (length-take-le (slotAt p) mem h),
-      lamp-slot,
-    )
-
--- .. and changes nothing where it was there before.
+-- A lamp stored where it was there before changes nothing.
 pub with-self : (mem : List ℕ) (p : ℕ) → Bytes mem → slotAt p + slotSize ≤ length mem → withLamp mem p (lampAt mem p) ≡ mem
 unfolding withLamp lampAt
 with-self mem p b h =
@@ -62,10 +46,6 @@ part-copied mem z at {k} e h =
     ap (λ (i : ℕ). length (take i (drop at mem))) e ∙ length-take-le (length z) (drop at mem) (simp length-drop (omega arith)) in
     let d : drop (length s) z ≡ [] = ap (λ (i : ℕ). drop i z) n ∙ drop-length z in
     rw (take-length s, d, append-nil) (ap (λ (i : ℕ). take i (drop at mem)) e)
-
--- What a part `&s[at..]` is.
-pub part-to-end : (s : List ℕ) (at : ℕ) → take (length s - at) (drop at s) ≡ drop at s
-part-to-end s at = take-all (length s - at) (drop at s) (simp length-drop (omega arith))
 
 -- The lamp at a place, from the bytes of its slot.
 pub slot-at : (mem : List ℕ) (p : ℕ) {bs : List ℕ} → slotAt p + slotSize ≤ length mem → bs ≡ take slotSize (drop (slotAt p) mem)

@@ -13,7 +13,7 @@ use Rattle.rules.specs.declared.Lamp.{Lamp}
 use Rattle.slot.specs.Slot.{slotSize, slotOf}
 use Rattle.chain.specs.Record.{headerSize, slotAt, lampsOf, slotsOf, lampsIn}
 use Rattle.chain.specs.Places.{lampAt, withLamp, sweep}
-use Rattle.chain.proofs.Slots.{bytes-drop, with-length}
+use Rattle.chain.proofs.Slots.{bytes-drop}
 use Rattle.chain.proofs.Places.{rest, rest-all, length-slotsOf, slotsOf-append, length-lampsOf, slots-lamps, length-lampsIn, lamps-at}
 
 -- Memory with lamps from place 0 on: the header and the bytes behind them as they were.
@@ -105,16 +105,6 @@ module _ (rule : ℕ → Lamp → Lamp) (n : ℕ) (mem₀ : List ℕ) where
 
   pub swept-all : (i : ℕ) (mem : List ℕ) → Swept rule n mem₀ i mem → n ≡ i → mem ≡ sweep rule 0 n mem₀
   swept-all i mem s e = sym (sweep-none rule i mem) ∙ ap (λ (k : ℕ). sweep rule i (k - i) mem) (sym e) ∙ s .1
-
--- A sweep leaves the length of memory.
-pub length-sweep : (rule : ℕ → Lamp → Lamp) (p n : ℕ) (mem : List ℕ) → slotAt (p + n) ≤ length mem
-    → length (sweep rule p n mem) ≡ length mem
-unfolding sweep
-length-sweep rule p zero mem h = refl
-length-sweep rule p (suc n) mem h =
-    let x = rule p (lampAt mem p) in
-    let e : length (withLamp mem p x) ≡ length mem = with-length mem p x (omega arith) in
-    length-sweep rule (suc p) n (withLamp mem p x) (rw e (omega arith)) ∙ e
 
 -- Lamps behind the installed ones, as memory has them, change nothing.
 install-part : (mem : List ℕ) (xs : List Lamp) (i n : ℕ) → Bytes mem → slotAt n ≤ length mem → i ≤ n → length xs ≡ i

@@ -14,7 +14,7 @@ use Rattle.table.proofs.Both.{and-left, and-right}
 use Rattle.telegram.specs.Numbers.{refused, done, refuse}
 use Rattle.rules.specs.Chain.{lampsRight, Chain, countRight, chainRight}
 use Rattle.chain.specs.Record.{headerSize, recordLength, countOf, lampsIn, decode, chainIn}
-use Rattle.chain.proofs.Places.{rest, length-lampsIn}
+use Rattle.chain.proofs.Places.{length-lampsIn}
 
 -- Where the rest refuses with the same number, the test does not matter.
 refuse-same : {A : Type 0} (b : Bool) (n : ℕ) → refuse {A = A} b n (refused n) ≡ refused n

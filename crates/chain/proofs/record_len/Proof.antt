@@ -1,9 +1,6 @@
 -- `chain::record_len` meets its contract.
 -- Assumes nothing.
-use mathlib.Core.Path.{_∙_, ap, sym}
-use mathlib.Core.Bool.{Bool, cond}
-use Prim.Native.Nat.{ℕ}
-use Rattle.chain.specs.Record.{recordLength}
+use mathlib.Core.Path.{_∙_, sym}
 use Rattle.chain.proofs.Validity.{count-few, count-many, count-right}
 use borrow.Author.Needs.{needs}
 use Rattle.chain.proofs.record_len.Statement.{statement}

@@ -2,7 +2,7 @@
 -- Assumes nothing.
 use Prim.Native.Nat.{ℕ, _-_}
 use native.Mathlib.Omega.{arith}
-use mathlib.Core.Path.{_≡_, refl, sym, ap}
+use mathlib.Core.Path.{_≡_}
 use Rattle.rules.specs.declared.Lamp.{Lamp}
 use Rattle.chain.specs.Places.{actedIn}
 use Rattle.chain.specs.Helpers.{commandIn}

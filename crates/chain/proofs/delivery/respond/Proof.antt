@@ -2,8 +2,6 @@
 -- Assumes nothing.
 use mathlib.Core.Path.{_≡_, _∙_, ap, sym}
 use native.Mathlib.Omega.{arith}
-use Rattle.telegram.specs.Numbers.{Outcome, done}
-use Rattle.command.specs.Commands.{Sent}
 use Rattle.rules.specs.Chain.{permitting}
 use Rattle.chain.specs.declared.Permit.{Permit}
 use Rattle.chain.specs.Record.{decode}

@@ -4,7 +4,6 @@ use mathlib.Core.Path.{_≡_, _∙_, ap, sym, subst}
 use mathlib.Core.Bool.{true}
 use lib.Dec.{leb}
 use borrow.Author.Tests.{leb-true, not-true, not-false}
-use Rattle.telegram.specs.Numbers.{Outcome}
 use Rattle.table.specs.declared.Cast.{Cast}
 use Rattle.table.specs.declared.Cast.the-variants.{One}
 use Rattle.table.specs.Casts.{castInRange}

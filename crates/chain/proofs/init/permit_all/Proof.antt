@@ -5,7 +5,6 @@ use native.Mathlib.Omega.{arith}
 use Rattle.chain.specs.Record.{decode}
 use Rattle.chain.proofs.Validity.{Valid, chain-in}
 use Rattle.chain.proofs.Inits.{permit-tested}
-use borrow.Author.Needs.{needs}
 use Rattle.chain.proofs.init.permit_all.Statement.{statement}
 use Rattle.chain.proofs.init.permit_all.Tie as tie
 
