@@ -282,7 +282,7 @@ fn put_line(out: &mut [u8], at: usize, book: &[u8], line: u8, s: &[u8]) -> usize
 }
 
 // Puts the whole table.
-pub fn put_table(out: &mut [u8], book: &[u8], s: &[u8]) -> usize {
+pub(crate) fn put_table(out: &mut [u8], book: &[u8], s: &[u8]) -> usize {
     let mut a = 0;
     let mut line: u8 = 0;
     while line < 9 {

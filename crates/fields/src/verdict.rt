@@ -27,7 +27,7 @@ fn judge_answer(s: &[u8], number: u8) -> Verdict {
     }
 }
 
-pub fn judge(s: &[u8]) -> Verdict {
+pub(crate) fn judge(s: &[u8]) -> Verdict {
     let d = command::dissect(s);
     match d {
         Dissection::Accepted(_) => Verdict::Sent,
@@ -36,7 +36,7 @@ pub fn judge(s: &[u8]) -> Verdict {
 }
 
 // The status of a verdict.
-pub fn is_refused(v: Verdict) -> u8 {
+pub(crate) fn is_refused(v: Verdict) -> u8 {
     match v {
         Verdict::Refused(_, _) => 1,
         _ => 0,
@@ -133,7 +133,7 @@ as a command refused %d: %r\nas an answer refused %d: %r\n%;    |
 }
 
 // Appends the verdict of n bytes, of which `bytes` has the first.
-pub fn put_verdict(
+pub(crate) fn put_verdict(
     out: &mut [u8],
     at: usize,
     book: &[u8],

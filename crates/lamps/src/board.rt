@@ -114,7 +114,7 @@ fn title_told(place: u16, lamps: u16, l: Lamp) -> Told {
 }
 
 // A lamp: what is told of it in two parts, a ring, its disc, its place and its address.
-pub fn part_told(part: u8, place: u16, lamps: u16, l: Lamp) -> Told {
+pub(crate) fn part_told(part: u8, place: u16, lamps: u16, l: Lamp) -> Told {
     let address = l.address;
     match part {
         0 => title_told(place, lamps, l),

@@ -114,7 +114,7 @@ pub fn digit(n: u8) -> u8
 }
 
 // Appends a byte in hex.
-pub fn put_hex(out: &mut [u8], at: usize, b: u8) -> usize
+fn put_hex(out: &mut [u8], at: usize, b: u8) -> usize
     ensures { λ r. ⌜ text r (now (out .exit)) ≡ appended (inHex b) (text at (now (out .entry))) ⌝ }
 {
     put(out, at, &[digit(b / 16), digit(b)])

@@ -111,7 +111,7 @@ pub fn hex_at(s: &[u8], from: usize, bytes: &mut [u8]) -> Hex {
 }
 
 // Whether a character separates words.
-pub fn is_gap(b: u8) -> bool {
+fn is_gap(b: u8) -> bool {
     match b {
         b' ' => true,
         b'\t' => true,

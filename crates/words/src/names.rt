@@ -35,7 +35,7 @@ pub fn row_of(number: u8) -> u8 {
 
 // Appends name k of the book: commands from 0 on, states from 20, directions from 24, modes from 26, words for nothing from 28, from 32 on
 // four forms of each flag, as text and behind another, as JSON and behind another.
-pub fn put_name(out: &mut [u8], at: usize, book: &[u8], k: u8) -> usize {
+pub(crate) fn put_name(out: &mut [u8], at: usize, book: &[u8], k: u8) -> usize {
     let start = NAMES_AT + k as usize * 16;
     put(out, at, text::ended(text::from(book, start)))
 }
@@ -259,7 +259,7 @@ fn hidden_for(letter: u8) -> usize {
 }
 
 // Appends the digits of a number.
-pub fn put_digits(out: &mut [u8], at: usize, letter: u8, n: u64) -> usize {
+pub(crate) fn put_digits(out: &mut [u8], at: usize, letter: u8, n: u64) -> usize {
     let digits = digits_for(letter, (n % 65536) as u16);
     put(out, at, text::from(&digits, hidden_for(letter)))
 }
@@ -272,7 +272,7 @@ fn repeated(letter: u8) -> u8 {
 // Appends what a letter in a form stands for. d is a number in decimal; for digits, names and lists see above; r is a refusal's reason;
 // x and X are the bytes, without and with a space before each, t the bytes as text; > spaces up to a column of the line that began
 // at `start`; _ and ^ a character so many times. Any other letter is nothing.
-pub fn put_code(
+pub(crate) fn put_code(
     out: &mut [u8],
     at: usize,
     book: &[u8],

@@ -1,6 +1,6 @@
-//! A second implementation of the OSP telegram rules, written from document 01
-//! alone. It exists to be compared with the library, so it shares nothing with
-//! it but the paper and the layouts in include/osp.h and docs/RECORD.md.
+//! A second implementation of the OSP telegram rules, written from document 01.
+//! It exists to be compared with the library, so it shares nothing with it but
+//! that paper, the layouts in include/osp.h and docs/RECORD.md, and docs/TOOL.md.
 //!
 //! - [`telegram`]: bytes to raw telegrams and back, and the checksum.
 //! - [`command`]: raw telegrams to named commands with a cast, and back.
