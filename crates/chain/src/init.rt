@@ -2,8 +2,8 @@
 use crate::Delivered;
 use crate::Permit;
 use crate::delivery::answer;
-use crate::lamps::any_unaddressed;
-use crate::lamps::mark_lamps;
+use crate::each_lamp::any_unaddressed;
+use crate::each_lamp::mark_lamps;
 use crate::record::count_of;
 use crate::record::load_lamp;
 use crate::record::store_lamp;

@@ -2,13 +2,13 @@
 // chain".
 mod change;
 mod delivery;
+mod each_lamp;
 mod init;
-mod lamps;
 mod record;
 
 use delivery::deliver_valid;
-use lamps::fill;
-use lamps::sense_one;
+use each_lamp::fill;
+use each_lamp::sense_one;
 use record::count_of;
 use record::is_valid;
 use record::load_lamp;

@@ -1,4 +1,4 @@
--- `chain::lamps::mark_one` meets its contract.
+-- `chain::each_lamp::mark_one` meets its contract.
 -- Assumes nothing.
 use mathlib.Core.Path.{_∙_, ap, sym}
 use mathlib.Core.Bool.{Bool, cond}
@@ -9,8 +9,8 @@ use Rattle.rules.specs.Lamp.{withFlags, withCE}
 use Rattle.chain.specs.Places.{lampAt, withLamp}
 use Rattle.chain.proofs.Slots.{with-self}
 use borrow.Author.Needs.{needs}
-use Rattle.chain.proofs.lamps.mark_one.Statement.{statement}
-use Rattle.chain.proofs.lamps.mark_one.Tie as tie
+use Rattle.chain.proofs.each_lamp.mark_one.Statement.{statement}
+use Rattle.chain.proofs.each_lamp.mark_one.Tie as tie
 
 pub mark-one-spec : {M : Type 1} → statement M
 mark-one-spec =

@@ -1,4 +1,4 @@
--- `chain::lamps::find` meets its contract.
+-- `chain::each_lamp::find` meets its contract.
 -- Assumes nothing.
 use mathlib.Core.Path.{_≡_, _∙_, ap, sym}
 use Prim.Native.Nat.{_≤_, _-_}
@@ -8,8 +8,8 @@ use Rattle.chain.specs.Record.{lampsIn}
 use Rattle.chain.specs.Places.{placeFrom}
 use Rattle.chain.proofs.Places.{rest, rest-all, place-here, place-next, place-none}
 use borrow.Author.Needs.{needs}
-use Rattle.chain.proofs.lamps.find.Statement.{statement}
-use Rattle.chain.proofs.lamps.find.Tie as tie
+use Rattle.chain.proofs.each_lamp.find.Statement.{statement}
+use Rattle.chain.proofs.each_lamp.find.Tie as tie
 
 -- the search from place i on finds what the whole search finds
 abbrev Inv-loop : tie.InvT-loop

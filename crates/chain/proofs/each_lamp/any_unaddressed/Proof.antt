@@ -1,4 +1,4 @@
--- `chain::lamps::any_unaddressed` meets its contract.
+-- `chain::each_lamp::any_unaddressed` meets its contract.
 -- Assumes nothing.
 use mathlib.Core.Path.{_≡_, _∙_, ap, sym}
 use Prim.Native.Nat.{ℕ, _≤_, _-_}
@@ -8,8 +8,8 @@ use Rattle.rules.specs.Chain.{anyUnaddressed}
 use Rattle.chain.specs.Record.{lampsIn}
 use Rattle.chain.proofs.Places.{rest, rest-all, unaddressed-step, unaddressed-none}
 use borrow.Author.Needs.{needs}
-use Rattle.chain.proofs.lamps.any_unaddressed.Statement.{statement}
-use Rattle.chain.proofs.lamps.any_unaddressed.Tie as tie
+use Rattle.chain.proofs.each_lamp.any_unaddressed.Statement.{statement}
+use Rattle.chain.proofs.each_lamp.any_unaddressed.Tie as tie
 
 -- what is known so far, and what is left, give the answer
 abbrev Inv-loop : tie.InvT-loop

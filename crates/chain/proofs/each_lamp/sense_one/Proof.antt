@@ -1,4 +1,4 @@
--- `chain::lamps::sense_one` meets its contract.
+-- `chain::each_lamp::sense_one` meets its contract.
 -- Assumes nothing.
 use mathlib.Core.Path.{_∙_, ap}
 use Rattle.rules.specs.declared.Flags.{Flags}
@@ -6,8 +6,8 @@ use Rattle.rules.specs.declared.Lamp.{Lamp}
 use Rattle.rules.specs.Lamp.{withFlags, sensed}
 use Rattle.chain.specs.Places.{withLamp}
 use borrow.Author.Needs.{needs}
-use Rattle.chain.proofs.lamps.sense_one.Statement.{statement}
-use Rattle.chain.proofs.lamps.sense_one.Tie as tie
+use Rattle.chain.proofs.each_lamp.sense_one.Statement.{statement}
+use Rattle.chain.proofs.each_lamp.sense_one.Tie as tie
 
 pub sense-one-spec : {M : Type 1} → statement M
 sense-one-spec =

@@ -1,4 +1,4 @@
--- `chain::lamps::mark_lamps` meets its contract.
+-- `chain::each_lamp::mark_lamps` meets its contract.
 -- Assumes nothing.
 use Prim.Native.Nat.{ℕ, _-_}
 use native.Mathlib.Omega.{arith}
@@ -7,8 +7,8 @@ use Rattle.rules.specs.declared.Lamp.{Lamp}
 use mathlib.Core.Bool.{cond}
 use Rattle.rules.specs.Lamp.{withCE}
 use Rattle.chain.proofs.Sweeps.{Swept, swept-none, swept-more, swept-all}
-use Rattle.chain.proofs.lamps.mark_lamps.Statement.{statement}
-use Rattle.chain.proofs.lamps.mark_lamps.Tie as tie
+use Rattle.chain.proofs.each_lamp.mark_lamps.Statement.{statement}
+use Rattle.chain.proofs.each_lamp.mark_lamps.Tie as tie
 
 abbrev Inv-loop : tie.InvT-loop
 Inv-loop mem₀ count on i₀ mem i = Swept (λ (p : ℕ) (x : Lamp). cond on (withCE x) x) count mem₀ i mem

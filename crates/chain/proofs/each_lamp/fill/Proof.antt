@@ -1,12 +1,12 @@
--- `chain::lamps::fill` meets its contract.
+-- `chain::each_lamp::fill` meets its contract.
 -- Assumes nothing.
 use Prim.Native.Nat.{ℕ, _-_}
 use native.Mathlib.Omega.{arith}
 use mathlib.Core.Path.{_≡_}
 use Rattle.rules.specs.declared.Lamp.{Lamp}
 use Rattle.chain.proofs.Sweeps.{Swept, swept-none, swept-more, swept-all}
-use Rattle.chain.proofs.lamps.fill.Statement.{statement}
-use Rattle.chain.proofs.lamps.fill.Tie as tie
+use Rattle.chain.proofs.each_lamp.fill.Statement.{statement}
+use Rattle.chain.proofs.each_lamp.fill.Tie as tie
 
 abbrev Inv-loop : tie.InvT-loop
 Inv-loop mem₀ count l i₀ mem i = Swept (λ (p : ℕ) (x : Lamp). l) count mem₀ i mem
