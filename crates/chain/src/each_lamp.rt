@@ -90,9 +90,9 @@ pub(crate) fn sense_one(mem: &mut [u8], p: Place, temperature: u8, faults: u8)
     requires { ⌜ slotAt (p .0) + slotSize ≤ length (now mem) ⌝ }
     ensures { λ _. ⌜ now (mem .exit) ≡ withLamp (now (mem .entry)) (p .0) (sensed temperature faults (lampAt (now (mem .entry)) (p .0))) ⌝ }
 {
-    let mut l = load_lamp(mem, p);
-    let flags = l.flags;
-    l.temperature = temperature;
-    l.flags = lamp::faulted_flags(faults, flags);
-    store_lamp(mem, p, l);
+    store_lamp(
+        mem,
+        p,
+        lamp::sensed_lamp(load_lamp(mem, p), temperature, faults),
+    );
 }

@@ -82,7 +82,7 @@ pub fn make(mem: &mut [u8], count: usize, d: Defaults) -> Delivered
         return Delivered::Refused(Refusal::RoomTooSmall);
     }
     put_header(mem, count, d);
-    fill(mem, count, lamp::blank_lamp(d, 0));
+    fill(mem, count, lamp::fresh_lamp(d));
     Delivered::Done(0)
 }
 

@@ -11,7 +11,7 @@ ghost use mathlib.Core.Bool.{_||_, not};
 ghost use mathlib.Core.List.{[], _∷_, _++_};
 ghost use Prim.Native.Nat.{_≤_, _/_, _%_};
 ghost use Rattle.command.specs.Fields.{wordBytes};
-ghost use Rattle.rules.specs.Lamp.{bit, stateNumber, statusByte, statusOf, blank, withState, noFlags, marked, faulted, uninitialized, told, answered, report};
+ghost use Rattle.rules.specs.Lamp.{bit, stateNumber, statusByte, statusOf, blank, withState, noFlags, marked, faulted, sensed, uninitialized, told, answered, report};
 ghost use Rattle.lamp.specs.Reactions.{padded};
 
 // The bytes of an answer, in the first `size` bytes.
@@ -114,6 +114,24 @@ pub fn blank_lamp(d: Defaults, temperature: u8) -> Lamp
             blue: 0,
         },
     }
+}
+
+// A fresh lamp: temperature 0, everything else as RESET leaves it.
+pub fn fresh_lamp(d: Defaults) -> Lamp
+    ensures { λ r. ⌜ r ≡ blank d 0 ⌝ }
+{
+    blank_lamp(d, 0)
+}
+
+// A lamp after a sensor report.
+pub fn sensed_lamp(l: Lamp, temperature: u8, faults: u8) -> Lamp
+    ensures { λ r. ⌜ r ≡ sensed temperature faults l ⌝ }
+{
+    let mut after = l;
+    let flags = l.flags;
+    after.temperature = temperature;
+    after.flags = faulted_flags(faults, flags);
+    after
 }
 
 // A lamp with another state.

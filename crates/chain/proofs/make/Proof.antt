@@ -38,5 +38,5 @@ make-spec =
     let h = b .before .if1 .left in
     held-done _ _ (made-done _ (a .count) (a .d) (count-known (a .count) e h) (omega (arith, length-known (a .count) e h)))
     (c .before .before .fill .ensures
-    ∙ ap₂ (λ (x : Lamp) (m : List ℕ). sweep (λ (p : ℕ) (l : Lamp). x) 0 (a .count) m) (c .before .before .before .blank-lamp .ensures) (c .before .before .before .before .before .before .before .put-header .ensures)
+    ∙ ap₂ (λ (x : Lamp) (m : List ℕ). sweep (λ (p : ℕ) (l : Lamp). x) 0 (a .count) m) (c .before .before .before .fresh-lamp .ensures) (c .before .before .before .before .before .before .before .put-header .ensures)
     ∙ hold-fresh (a .mem .now) (a .count) (a .d))))
