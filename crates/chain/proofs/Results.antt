@@ -104,26 +104,26 @@ permitting-answerable xs t = either (λ (o : Outcome Sent). Answerable o) (isIni
     by (Group g) = (told CastNotAllowed refl)
 
 -- A walk is always done: each visit that ends it ends it so.
-abbrev Ends : Lamp → Outcome (List ℕ) → Type 0
-Ends y o = Answerable o
+abbrev Ends : ℕ → Lamp → Outcome (List ℕ) → Type 0
+Ends p y o = Answerable o
 
-last-done : (b : Bool) (a n : ℕ) (x : Lamp) → Ending Ends (lastAnswers b a n x)
-last-done true a n x = well _ refl
-last-done false a n x = tt
+last-done : (b : Bool) (a n p : ℕ) (x : Lamp) → Ending Ends p (lastAnswers b a n x)
+last-done true a n p x = well _ refl
+last-done false a n p x = tt
 
-visiting-done : (d : Defaults) (n : ℕ) (t : Sent) (p : ℕ) (x : Lamp) → Ending Ends (visiting d n t p x)
+visiting-done : (d : Defaults) (n : ℕ) (t : Sent) (p : ℕ) (x : Lamp) → Ending Ends p (visiting d n t p x)
 unfolding visiting
 visiting-done d n t p x = go (isInit k) (t .cast)
   where
     k : ℕ
     k = t .message .number
 
-    go : (b : Bool) (cast : Cast) → Ending Ends (cond b (initialising n k cast) (reaching d (t .message) cast) p x)
-    go true Everyone = last-done (eqb (suc p) n) 0 k (cond (eqb k 0x02) (withCE x) x)
-    go true (One a) = last-done (eqb (suc p) n) (a .0 + p) k (numberedAs k (a .0 + p) x)
+    go : (b : Bool) (cast : Cast) → Ending Ends p (cond b (initialising n k cast) (reaching d (t .message) cast) p x)
+    go true Everyone = last-done (eqb (suc p) n) 0 k p (cond (eqb k 0x02) (withCE x) x)
+    go true (One a) = last-done (eqb (suc p) n) (a .0 + p) k p (numberedAs k (a .0 + p) x)
     go true (Group g) = tt
     go false Everyone = tt
-    go false (One a) = either (Ending Ends) (eqb (x .address .0) (a .0)) (well _ refl) tt
+    go false (One a) = either (Ending Ends p) (eqb (x .address .0) (a .0)) (well _ refl) tt
     go false (Group g) = tt
 
 taken-answerable : (d : Defaults) (xs : List Lamp) (o : Outcome Sent) → Answerable o → Answerable (taken d xs o .outcome)
@@ -132,7 +132,7 @@ taken-answerable d xs (refused n) (told e q) = told e (ap refused (refused-one q
 taken-answerable d xs (done t) h =
     go (walk-ended Ends (visiting d (length xs) t) (length xs) (λ p x l. visiting-done d (length xs) t p x) 0 xs (omega arith))
   where
-    go : Ended Ends (walk (visiting d (length xs) t) 0 xs) → Answerable (walk (visiting d (length xs) t) 0 xs .outcome)
+    go : Ended Ends 0 (walk (visiting d (length xs) t) 0 xs) → Answerable (walk (visiting d (length xs) t) 0 xs .outcome)
     go (inl e) = well [] e
     go (inr r) = r .1 .1 .1
 

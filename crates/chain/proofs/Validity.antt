@@ -13,7 +13,7 @@ use Rattle.telegram.proofs.Outcomes.{done-one, passed}
 use Rattle.table.proofs.Both.{and-left, and-right}
 use Rattle.telegram.specs.Numbers.{refused, done, refuse}
 use Rattle.rules.specs.Chain.{lampsRight, Chain, countRight, chainRight}
-use Rattle.chain.specs.Record.{headerSize, recordLength, countOf, lampsIn, decode, chainIn}
+use Rattle.chain.specs.Record.{headerSize, recordLength, lengthFor, countOf, lampsIn, decode, chainIn}
 use Rattle.chain.proofs.Places.{length-lampsIn}
 
 -- Where the rest refuses with the same number, the test does not matter.
@@ -64,7 +64,7 @@ module _ (n : ℕ) where
   count-right h k = simp (le-leb _ _ h, le-leb _ _ k)
 
 -- What the length that the code works out for a count tells: 0 that the count is wrong, else that it is right and the record's length.
-module _ (n : ℕ) {k : ℕ} (e : k ≡ cond (countRight n) (recordLength n) 0) where
+module _ (n : ℕ) {k : ℕ} (e : k ≡ lengthFor n) where
   pub count-wrong : k ≡ 0 → countRight n ≡ false
   count-wrong z = go (countRight n) e
     where
@@ -87,7 +87,7 @@ pub count-most : (n : ℕ) → countRight n ≡ true → n ≤ 1007
 count-most n h = leb-true n 1007 (and-right (leb 1 n) _ h)
 
 -- No record is longer than that of 1007 lamps.
-pub record-small : (n : ℕ) → cond (countRight n) (recordLength n) 0 ≤ recordLength 1007
+pub record-small : (n : ℕ) → lengthFor n ≤ recordLength 1007
 record-small n = go (countRight n) refl
   where
     go : (b : Bool) → countRight n ≡ b → cond b (recordLength n) 0 ≤ recordLength 1007

@@ -1,7 +1,7 @@
 -- docs/RECORD.md: how a chain lies in lent memory. Document 01, "A lamp and the chain": which memory holds a valid chain.
 -- Assumes nothing.
 use Prim.Native.Nat.{ℕ, zero, suc, _+_, _*_}
-use mathlib.Core.Bool.{not}
+use mathlib.Core.Bool.{cond, not}
 use mathlib.Core.List.{List, [], _∷_, _++_}
 use lib.Dec.{ltb}
 use lib.ListN.{length, getD, drop}
@@ -23,6 +23,10 @@ slotAt p = headerSize + slotSize * p
 -- The record of n lamps ends where the slot of place n would begin.
 abbrev pub recordLength : ℕ → ℕ
 recordLength n = slotAt n
+
+-- The length of the record for a count of lamps, 0 for a count that is not 1 to 1007.
+abbrev pub lengthFor : ℕ → ℕ
+lengthFor n = cond (countRight n) (recordLength n) 0
 
 -- The lamps of n slots, one behind the other ..
 unfoldable pub lampsOf : ℕ → List ℕ → List Lamp

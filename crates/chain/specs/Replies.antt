@@ -1,10 +1,10 @@
 -- Every answer that a chain gives is accepted by the answer dissector, with the lamp's address and that command: the statement.
 -- Assumes nothing.
-use Prim.Native.Nat.{ℕ}
+use Prim.Native.Nat.{ℕ, suc}
 use mathlib.Core.Path.{_≡_}
-use mathlib.Core.Bool.{false}
+use mathlib.Core.Bool.{true, false}
 use mathlib.Core.List.{List, _∷_}
-use Rattle.telegram.specs.Numbers.{Outcome, done}
+use Rattle.telegram.specs.Numbers.{Outcome, refused, done}
 use Rattle.table.specs.Casts.{addressOf}
 use Rattle.table.specs.declared.Cast.{Cast}
 use Rattle.table.specs.declared.Cast.the-variants.{Everyone, One, Group}
@@ -31,7 +31,8 @@ pub record AnswerOf (t : Sent) (l : Lamp) (bytes : List ℕ) : Type 0 where
   pub address : Carries (t .cast) l (reply .address)
   pub asked : isInit (t .message .number) ≡ false → reply .address ≡ addressOf (t .cast)
 
--- It accepts bytes as the answer to the telegram s of one of the lamps that are left, given by their places.
+-- It accepts bytes as the answer to the telegram s of one of the lamps that are left, given by their places: of the last one, behind
+-- which there is none (13), if the telegram is an init.
 pub record AnswerAccepted (s : List ℕ) (left : ℕ → Outcome Lamp) (bytes : List ℕ) : Type 0 where
   pub sent : Sent
   pub dissected : dissecting s ≡ done sent
@@ -39,6 +40,7 @@ pub record AnswerAccepted (s : List ℕ) (left : ℕ → Outcome Lamp) (bytes : 
   pub lamp : Lamp
   pub stands : left place ≡ done lamp
   pub answer : AnswerOf sent lamp bytes
+  pub last : isInit (sent .message .number) ≡ true → left (suc place) ≡ refused 13
 
 -- Every answer of a chain is accepted, to whatever bytes and with whatever room, as that of a lamp as the delivery left it. No bytes is
 -- no answer.

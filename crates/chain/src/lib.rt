@@ -19,11 +19,9 @@ use rules::Lamp;
 use rules::Place;
 use telegram::Refusal;
 ghost use mathlib.Core.Path.{_≡_};
-ghost use mathlib.Core.Bool.{cond};
 ghost use lib.ListN.{length};
 ghost use Rattle.telegram.specs.Numbers.{counted, leaves};
-ghost use Rattle.rules.specs.Chain.{countRight};
-ghost use Rattle.chain.specs.Record.{recordLength};
+ghost use Rattle.chain.specs.Record.{lengthFor};
 ghost use Rattle.chain.specs.Memory.{deliveredAs, lampReadAs, delivered, held, silent, made, sensedIn, lampRead};
 
 // What a call on a chain answers: done, with the number of bytes that the answer has, or refused.
@@ -58,7 +56,7 @@ pub(crate) enum Permit {
 
 // The length of the record of a count of lamps, 0 for a count that is refused.
 pub fn record_len(count: usize) -> usize
-    ensures { λ r. ⌜ r ≡ cond (countRight count) (recordLength count) 0 ⌝ }
+    ensures { λ r. ⌜ r ≡ lengthFor count ⌝ }
 {
     if count < 1 {
         return 0;

@@ -4,6 +4,7 @@ mod payload;
 use payload::bare_parts;
 pub use payload::one_byte;
 pub use payload::pwm_from;
+pub use payload::pwm_of;
 pub use payload::pwm_parts;
 pub use payload::three_bytes;
 pub use payload::word_parts;

@@ -18,8 +18,8 @@ use Rattle.rules.specs.declared.State.the-variants.{Uninitialized}
 use Rattle.rules.specs.declared.Defaults.{Defaults}
 use Rattle.rules.specs.declared.Lamp.{Lamp}
 use Rattle.rules.specs.Lamp.{bit, stateNumber, statusByte}
-use Rattle.rules.specs.Chain.{Chain, countRight}
-use Rattle.chain.specs.Record.{recordLength}
+use Rattle.rules.specs.Chain.{Chain}
+use Rattle.chain.specs.Record.{lengthFor}
 use Rattle.chain.specs.Memory.{silent, lampRead}
 use Rattle.osp.specs.declared.Directed.{Directed}
 use Rattle.osp.specs.declared.Directed.the-variants.{To, OutOfRange}
@@ -96,7 +96,7 @@ ospBuildPwm kind value modes r g b room =
 
 -- `osp_record_len`: the record's length, 0 for a count that is not 1 to 1007.
 abbrev pub ospRecordLen : ℕ → ℕ
-ospRecordLen n = cond (countRight n) (recordLength n) 0
+ospRecordLen n = lengthFor n
 
 -- The defaults of a chain from their four bytes.
 abbrev pub defaultsFrom : ℕ → ℕ → ℕ → ℕ → Defaults

@@ -2,6 +2,7 @@
 -- Assumes nothing.
 use Prim.Native.Nat.{ℕ, zero, suc, _+_, _≤_, _<_}
 use native.Mathlib.Omega.{arith}
+use native.Mathlib.Nat.{add-zero}
 use native.Mathlib.Decide.{ℕ-discrete}
 use mathlib.Core.Path.{_≡_, refl, sym, ap, _∙_, subst}
 use mathlib.Core.Logic.{_≢_, _⊎_, inl, inr}
@@ -85,27 +86,29 @@ pub walk-each : (P : ℕ → Lamp → Type 0) (visit : ℕ → Lamp → Step) (n
 walk-each P visit n keeps p xs l =
     kept-each P p xs (walk visit p xs .lamps) (walk-became (λ (q : ℕ) (x y : Lamp). P q x → P q y) visit n (λ q x h. h) keeps p xs l)
 
--- Where a visit ends, P holds of the lamp that it leaves and of the outcome.
-abbrev pub Ending : (Lamp → Outcome (List ℕ) → Type 0) → Step → Type 0
-Ending P (onward y) = Unit {0}
-Ending P (ends y o) = P y o
+-- Where a visit at a place ends, P holds of the place, of the lamp that it leaves and of the outcome.
+abbrev pub Ending : (ℕ → Lamp → Outcome (List ℕ) → Type 0) → ℕ → Step → Type 0
+Ending P p (onward y) = Unit {0}
+Ending P p (ends y o) = P p y o
 
--- A walk is done without an answer, or P holds of a lamp that it leaves and of its outcome.
-abbrev pub Ended : (Lamp → Outcome (List ℕ) → Type 0) → Walked → Type 0
-Ended P w = (w .outcome ≡ done []) ⊎ ((q : ℕ) × ((y : Lamp) × ((lampIn (w .lamps) q ≡ done y) × P y (w .outcome))))
+-- A walk from place p on is done without an answer, or P holds of a place, of the lamp that it leaves there and of its outcome.
+abbrev pub Ended : (ℕ → Lamp → Outcome (List ℕ) → Type 0) → ℕ → Walked → Type 0
+Ended P p w = (w .outcome ≡ done []) ⊎ ((q : ℕ) × ((y : Lamp) × ((lampIn (w .lamps) q ≡ done y) × P (p + q) y (w .outcome))))
 
 -- What holds where a visit ends, at each of n places, holds where a walk ended.
-pub walk-ended : (P : Lamp → Outcome (List ℕ) → Type 0) (visit : ℕ → Lamp → Step) (n : ℕ)
-    → ((p : ℕ) (x : Lamp) → p < n → Ending P (visit p x))
-    → (p : ℕ) (xs : List Lamp) → p + length xs ≤ n → Ended P (walk visit p xs)
+pub walk-ended : (P : ℕ → Lamp → Outcome (List ℕ) → Type 0) (visit : ℕ → Lamp → Step) (n : ℕ)
+    → ((p : ℕ) (x : Lamp) → p < n → Ending P p (visit p x))
+    → (p : ℕ) (xs : List Lamp) → p + length xs ≤ n → Ended P p (walk visit p xs)
 walk-ended P visit n visits p [] l = inl refl
 walk-ended P visit n visits p (x ∷ xs) l =
     go (visit p x) (visits p x (omega arith)) (walk-ended P visit n visits (suc p) xs (omega arith))
   where
-    go : (s : Step) → Ending P s → Ended P (walk visit (suc p) xs) → Ended P (stepped s xs (walk visit (suc p) xs))
+    go : (s : Step) → Ending P p s → Ended P (suc p) (walk visit (suc p) xs) → Ended P p (stepped s xs (walk visit (suc p) xs))
     go (onward y) h (inl e) = inl e
-    go (onward y) h (inr r) = inr (suc (r .0), r .1)
-    go (ends y o) h ih = inr (0, (y, (refl, h)))
+    go (onward y) h (inr r) =
+        let k : suc p + r .0 ≡ p + suc (r .0) = omega arith in
+        inr (suc (r .0), (r .1 .0, (r .1 .1 .0, subst (λ (i : ℕ). P i (r .1 .0) (walk visit (suc p) xs .outcome)) k (r .1 .1 .1))))
+    go (ends y o) h ih = inr (0, (y, (refl, subst (λ (i : ℕ). P i y o) (sym (add-zero p)) h)))
 
 -- What holds of both holds of the one that a test picks; of the first it is asked only where the test is true.
 pub where-true : {A : Type 0} {x y : A} (P : A → Type 0) (b : Bool) → (b ≡ true → P x) → P y → P (cond b x y)
