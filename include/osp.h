@@ -9,12 +9,14 @@
  * and its length. The pointers are not null, not even for no bytes, and a room
  * does not overlap an input.
  *
- * Every function but osp_checksum and osp_record_len returns number + 256 * count:
+ * Every function but osp_checksum, osp_record_len and osp_reader_position
+ * returns number + 256 * count:
  *   number  0 is done; 1 to 13 is a refusal (OSP_ERR_*).
  *   count   how many bytes were written to the front of the room; 0 on refusal.
  * On a refusal every byte of the room and of the record stays as it was, but
- * OSP_ERR_CHECKSUM at delivery sets CE on the lamp at place 0. When done, the
- * bytes past the last written one stay.
+ * OSP_ERR_CHECKSUM at delivery sets CE on the lamp at place 0, and a refusal of
+ * the reader of a capture (1 to 5) is kept in its state, which stays stopped.
+ * When done, the bytes past the last written one stay.
  *
  * A chain lies in a record: memory that the caller lends, as docs/RECORD.md
  * describes. Any bytes may be given as a record; what holds no valid chain is
@@ -47,7 +49,7 @@ enum {
     OSP_ERR_PAYLOAD_SIZE = 8, /* payload size wrong for the command */
     OSP_ERR_ROOM = 9,         /* room too small */
     OSP_ERR_RANGE = 10,       /* builder field, duty or fault number out of range, or payload length not listed */
-    OSP_ERR_CHAIN = 11,       /* lamp count not 1 to 1007, or no valid chain */
+    OSP_ERR_CHAIN = 11,       /* lamp count not 1 to 1007, no valid chain, or a state that no reading of a capture leaves */
     OSP_ERR_INIT = 12,        /* init runs past 3EF */
     OSP_ERR_PLACE = 13        /* no lamp at that place */
 };
@@ -144,6 +146,51 @@ uint32_t osp_sense(uint8_t *record, size_t len, uint32_t place, uint8_t temperat
  * (2) and PWM (6).
  */
 uint32_t osp_lamp(const uint8_t *record, size_t len, uint32_t place, uint8_t *out, size_t room);
+
+/*
+ * The reader of a capture: a run of telegrams that arrives in chunks cut
+ * anywhere, some empty. What it remembers from one chunk to the next lies in
+ * OSP_READER_LEN bytes that the caller lends. All zeros is a fresh reader.
+ *   byte 0       0 open, 1 ended, 2 stopped by a refusal
+ *   byte 1       open: how many bytes of an unfinished telegram are carried, 0
+ *                to 11; stopped: the refusal's number, 1 to 5; ended: 0
+ *   bytes 2-9    the position in the run, high byte first, of the first byte
+ *                that belongs to no telegram given so far; of a refused
+ *                telegram its first byte. Counted modulo 2^64
+ *   bytes 10-20  the carried bytes, zeros behind them
+ * Bytes behind these stay. Fewer bytes than OSP_READER_LEN, and a state that no
+ * reading leaves, are refused with 11 and stay as they were.
+ */
+#define OSP_READER_LEN 21
+
+/*
+ * Reads the next telegram of a chunk of n bytes, from index *at on, and moves
+ * *at behind it. Writes the telegram. Number 0 with count 0 is no telegram: all
+ * of the chunk is taken and *at is n (or *at was n or more and stays), or the
+ * run has ended. However the run is cut, the telegrams, the refusal and its
+ * position are those of the uncut run.
+ * Refusals 11, then the reader's own (2 as soon as a telegram's first byte is
+ * in, 3 with its third, 5 with its last), then 9. A refusal leaves *at and the
+ * room. 2, 3 and 5 stop the reader: every later call for a telegram or for the
+ * end repeats them. 9 leaves the reader as it was, too.
+ */
+uint32_t osp_reader_next(uint8_t *reader, size_t len, const uint8_t *chunk, size_t n, size_t *at, uint8_t *out,
+                         size_t room);
+
+/*
+ * The run has ended. Number 0 when nothing was left over; else the leftover
+ * bytes are refused with 1 if fewer than 4, and with 4 otherwise. Later calls
+ * repeat the answer. Refusals 11, then the reader's own (1, 4, or what stopped
+ * it before).
+ */
+uint32_t osp_reader_end(uint8_t *reader, size_t len);
+
+/*
+ * The position in the reader: of the first byte that belongs to no telegram
+ * given so far, after a refusal of the refused telegram's first byte. 0 also for
+ * what the other two refuse with 11, which has no position.
+ */
+uint64_t osp_reader_position(const uint8_t *reader, size_t len);
 
 #ifdef __cplusplus
 }

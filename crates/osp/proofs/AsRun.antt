@@ -11,7 +11,8 @@ use Rattle.chain.specs.declared.Delivered.{Delivered}
 use Rattle.chain.specs.Memory.{deliveredAs}
 use Rattle.chain.specs.Calls.{Delivers, Makes}
 use Rattle.chain.proofs.Results.{deliver-answer, make-answer}
-use Rattle.osp.specs.Interface.{packed, defaultsFrom}
+use Rattle.reader.specs.Interface.{packed}
+use Rattle.osp.specs.Interface.{defaultsFrom}
 use Rattle.osp.proofs.chains.osp_deliver as deliver
 use Rattle.osp.proofs.chains.osp_make as make
 use Rattle.osp.proofs.chains.osp_deliver.Reads as deliver-reads

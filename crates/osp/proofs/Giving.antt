@@ -27,17 +27,6 @@ use Rattle.command.proofs.Commanding.{commanded}
 use Rattle.command.proofs.Sound.{command-short}
 use Rattle.osp.specs.Interface.{readBytes, sentBytes, replyBytes}
 
--- Two copies, one behind the other, write both lists to the front.
-pub two-copies : (head p out : List ℕ) {o ys : List ℕ} → length head + length p ≤ length out
-    → o ≡ take (length head) head ++ drop (length head) out
-    → ys ≡ take (length p) p ++ drop (length p) (take (length o - length head) (drop (length head) o))
-    → putMid (length head) (length o - length head) o ys ≡ front (head ++ p) out
-two-copies head p out {o} {ys} h e f =
-    let eo : o ≡ front head out = e ∙ ap (λ (l : List ℕ). l ++ drop (length head) out) (take-length head) in
-    let l : length o ≡ length out = ap length eo ∙ simp (length-append, length-drop) (omega arith) in
-    put-over o p (length head) (omega arith) f
-    ∙ ap (λ (l : List ℕ). overwritten l (length head) p) eo ∙ front-over head out p
-
 -- The count of a builder's answer is short, where what it builds is.
 pub count-short : (b : Built) (o : Outcome (List ℕ)) → builtAs b ≡ counted o → ((s : List ℕ) → o ≡ done s → length s < 65536)
     → (n : ℕ) → builtAs b ≡ done n → n < 65536

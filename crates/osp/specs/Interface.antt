@@ -5,7 +5,7 @@ use mathlib.Core.Bool.{false, cond, not, _&&_}
 use mathlib.Core.List.{List, [], _∷_, _++_}
 use lib.Dec.{eqb, leb, ltb}
 use lib.ListN.{length}
-use Rattle.telegram.specs.Numbers.{Outcome, refused, done, refuse, after, fitted, counted}
+use Rattle.telegram.specs.Numbers.{Outcome, refused, done, refuse, after, fitted}
 use Rattle.telegram.specs.Telegram.{reading, payloadIn}
 use Rattle.telegram.specs.declared.Telegram.{Telegram}
 use Rattle.table.specs.Casts.{castKind, castValue}
@@ -21,17 +21,9 @@ use Rattle.rules.specs.Lamp.{bit, stateNumber, statusByte}
 use Rattle.rules.specs.Chain.{Chain}
 use Rattle.chain.specs.Record.{lengthFor}
 use Rattle.chain.specs.Memory.{silent, lampRead}
+use Rattle.reader.specs.Interface.{packed}
 use Rattle.osp.specs.declared.Directed.{Directed}
 use Rattle.osp.specs.declared.Directed.the-variants.{To, OutOfRange}
-
--- Number and count in one: number + 256 × count. The number is 0 when done, the count 0 on refusal.
-abbrev pub packed : Outcome ℕ → ℕ
-packed (refused n) = n
-packed (done count) = count * 256
-
--- What a function returns: its number and the count of the bytes that it wrote.
-abbrev pub returned : Outcome (List ℕ) → ℕ
-returned o = packed (counted o)
 
 -- `osp_read` writes the address (2), command, payload size, payload.
 abbrev pub readBytes : List ℕ → Telegram → List ℕ

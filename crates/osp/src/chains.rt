@@ -10,7 +10,8 @@ ghost use mathlib.Core.Path.{_≡_};
 ghost use lib.ListN.{length};
 ghost use Rattle.telegram.specs.Numbers.{leaves};
 ghost use Rattle.chain.specs.Memory.{delivered, held, made, sensedIn};
-ghost use Rattle.osp.specs.Interface.{returned, ospRecordLen, defaultsFrom, returnedBare, ospLamp};
+ghost use Rattle.reader.specs.Interface.{returned};
+ghost use Rattle.osp.specs.Interface.{ospRecordLen, defaultsFrom, returnedBare, ospLamp};
 
 // The length of the record of a chain.
 #[no_mangle]

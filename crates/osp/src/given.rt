@@ -13,7 +13,8 @@ ghost use lib.ListN.{length};
 ghost use Rattle.telegram.specs.Numbers.{fitted, leaves};
 ghost use Rattle.command.specs.Commands.{sentAs};
 ghost use Rattle.answer.specs.Answers.{replyOf};
-ghost use Rattle.osp.specs.Interface.{returned, readBytes, sentBytes, replyBytes, lampHead, lampBytes};
+ghost use Rattle.reader.specs.Interface.{returned};
+ghost use Rattle.osp.specs.Interface.{readBytes, sentBytes, replyBytes, lampHead, lampBytes};
 
 // Writes a result, a head and a payload behind it, where there is room for both, else 9.
 fn give(head: &[u8], payload: &[u8], out: &mut [u8]) -> u32

@@ -2,6 +2,7 @@
 mod casts;
 mod chains;
 mod given;
+mod readers;
 mod returned;
 mod telegrams;
 
@@ -10,6 +11,9 @@ pub use chains::osp_lamp;
 pub use chains::osp_make;
 pub use chains::osp_record_len;
 pub use chains::osp_sense;
+pub use readers::osp_reader_end;
+pub use readers::osp_reader_next;
+pub use readers::osp_reader_position;
 use table::Cast;
 pub use telegrams::osp_build;
 pub use telegrams::osp_build_command;

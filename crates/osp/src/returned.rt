@@ -6,7 +6,7 @@ ghost use mathlib.Core.Path.{_≡_};
 ghost use Prim.Native.Nat.{ℕ, _<_};
 ghost use Rattle.telegram.specs.Numbers.{done, numberOf, builtAs};
 ghost use Rattle.chain.specs.Memory.{deliveredAs};
-ghost use Rattle.osp.specs.Interface.{packed};
+ghost use Rattle.reader.specs.Interface.{packed};
 
 // The number of a refusal as it is returned.
 pub(crate) fn refusal_returned(e: Refusal) -> u32

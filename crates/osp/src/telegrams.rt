@@ -21,7 +21,8 @@ ghost use Rattle.telegram.specs.Numbers.{leaves};
 ghost use Rattle.telegram.specs.Telegram.{building};
 ghost use Rattle.command.specs.Fields.{modeOf};
 ghost use Rattle.command.specs.Commands.{messageOf};
-ghost use Rattle.osp.specs.Interface.{returned, ospRead, ospDissect, ospDissectAnswer, buildingDirected, ospBuildCommand, ospBuildPwm};
+ghost use Rattle.reader.specs.Interface.{returned};
+ghost use Rattle.osp.specs.Interface.{ospRead, ospDissect, ospDissectAnswer, buildingDirected, ospBuildCommand, ospBuildPwm};
 
 // The checksum of the bytes of `s`.
 #[no_mangle]

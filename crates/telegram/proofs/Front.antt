@@ -50,6 +50,17 @@ put-over d s at {ys} h e =
     ∙ ap (λ (r : List ℕ). s ++ r) (drop-drop (length s) at d))
     ∙ sym (append-assoc (take at d) s (drop (at + length s) d))
 
+-- Two copies, one behind the other, write both lists to the front.
+pub two-copies : (head p out : List ℕ) {o ys : List ℕ} → length head + length p ≤ length out
+    → o ≡ take (length head) head ++ drop (length head) out
+    → ys ≡ take (length p) p ++ drop (length p) (take (length o - length head) (drop (length head) o))
+    → putMid (length head) (length o - length head) o ys ≡ front (head ++ p) out
+two-copies head p out {o} {ys} h e f =
+    let eo : o ≡ front head out = e ∙ ap (λ (l : List ℕ). l ++ drop (length head) out) (take-length head) in
+    let l : length o ≡ length out = ap length eo ∙ simp (length-append, length-drop) (omega arith) in
+    put-over o p (length head) (omega arith) f
+    ∙ ap (λ (l : List ℕ). overwritten l (length head) p) eo ∙ front-over head out p
+
 -- the three steps of a telegram's writing
 pub written : (a c i : ℕ) (p out : List ℕ) {o₁ o₂ o₃ : List ℕ} → i ≡ indexOf (length p) → 4 + length p ≤ length out
     → o₁ ≡ front (header a i c) out → o₂ ≡ overwritten o₁ 3 p → o₃ ≡ set o₂ (3 + length p) (checksumOf (take (3 + length p) o₂))

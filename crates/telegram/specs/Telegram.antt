@@ -32,8 +32,11 @@ abbrev pub addressIn : List ℕ → ℕ
 addressIn s = getD s 0 0 % 16 * 64 + getD s 1 0 / 4
 
 -- .. the size index the next 3 bits, 2 of byte 1 and 1 of byte 2 ..
+abbrev pub indexFrom : ℕ → ℕ → ℕ
+indexFrom b1 b2 = b1 % 4 * 2 + b2 / 128
+
 abbrev pub indexIn : List ℕ → ℕ
-indexIn s = getD s 1 0 % 4 * 2 + getD s 2 0 / 128
+indexIn s = indexFrom (getD s 1 0) (getD s 2 0)
 
 -- .. and the command the low 7 bits of byte 2.
 abbrev pub commandIn : List ℕ → ℕ

@@ -5,7 +5,7 @@ ghost use mathlib.Core.List.{_++_};
 ghost use lib.ListN.{length, take, drop, set};
 ghost use Rattle.checksum.specs.Checksum.{checksumOf};
 ghost use Rattle.telegram.specs.Numbers.{numberOf, builtAs, counted, front, leaves};
-ghost use Rattle.telegram.specs.Telegram.{readAs, refusalIn, sizeOf, framing, reading, checksumRight, header, listed, indexOf, telegramOf, building};
+ghost use Rattle.telegram.specs.Telegram.{readAs, refusalIn, indexFrom, sizeOf, framing, reading, checksumRight, header, listed, indexOf, telegramOf, building};
 
 // An address on the chain, of 10 bits. A lamp's place in the chain is another kind of number, with a type of its own.
 pub struct Address(pub u16);
@@ -78,8 +78,8 @@ pub fn refusal_of(r: Read) -> Refusal
 }
 
 // The size index in bytes 1 and 2.
-fn index_in(b1: u8, b2: u8) -> u8
-    ensures { λ r. ⌜ r ≡ b1 % 4 * 2 + b2 / 128 ⌝ }
+pub fn index_in(b1: u8, b2: u8) -> u8
+    ensures { λ r. ⌜ r ≡ indexFrom b1 b2 ⌝ }
 {
     b1 % 4 * 2 + b2 / 128
 }
@@ -92,7 +92,7 @@ fn address_in(b0: u8, b1: u8) -> u16
 }
 
 // The payload bytes that a size index means.
-fn size_of(index: u8) -> usize
+pub fn size_of(index: u8) -> usize
     ensures { λ r. ⌜ (r ≡ sizeOf index) × (r ≤ 255) ⌝ }
 {
     if index == 7 { 8 } else { index as usize }

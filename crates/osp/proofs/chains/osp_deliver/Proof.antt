@@ -1,7 +1,7 @@
 -- `osp::chains::osp_deliver` meets its contract.
 -- Assumes nothing.
 use mathlib.Core.Path.{_∙_, ap}
-use Rattle.osp.specs.Interface.{packed}
+use Rattle.reader.specs.Interface.{packed}
 use lib.ListN.{length}
 use Rattle.chain.specs.Memory.{delivered}
 use Rattle.osp.proofs.ChainCalls.{counted-short}

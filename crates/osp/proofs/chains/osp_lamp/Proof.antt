@@ -3,7 +3,8 @@
 use mathlib.Core.Path.{_∙_, ap, sym}
 use Rattle.telegram.proofs.Outcomes.{after-done, after-refused, told-same, told-refused}
 use Rattle.chain.specs.Memory.{lampReadAs}
-use Rattle.osp.specs.Interface.{returned, ospLamp}
+use Rattle.reader.specs.Interface.{returned}
+use Rattle.osp.specs.Interface.{ospLamp}
 use borrow.Author.Needs.{needs}
 use Rattle.osp.proofs.chains.osp_lamp.Statement.{statement}
 use Rattle.osp.proofs.chains.osp_lamp.Tie as tie

@@ -1,7 +1,7 @@
 -- `osp::chains::osp_make` meets its contract.
 -- Assumes nothing.
 use mathlib.Core.Path.{_∙_, ap}
-use Rattle.osp.specs.Interface.{packed}
+use Rattle.reader.specs.Interface.{packed}
 use Rattle.osp.specs.Interface.{defaultsFrom}
 use Rattle.chain.specs.Memory.{made}
 use Rattle.osp.proofs.ChainCalls.{silent-short}

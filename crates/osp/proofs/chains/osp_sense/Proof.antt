@@ -1,7 +1,7 @@
 -- `osp::chains::osp_sense` meets its contract.
 -- Assumes nothing.
 use mathlib.Core.Path.{_∙_, ap}
-use Rattle.osp.specs.Interface.{packed}
+use Rattle.reader.specs.Interface.{packed}
 use Rattle.chain.specs.Memory.{sensedIn}
 use Rattle.osp.proofs.ChainCalls.{silent-short}
 use borrow.Author.Needs.{needs}

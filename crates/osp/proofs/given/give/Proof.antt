@@ -5,9 +5,9 @@ use mathlib.Core.List.{_++_}
 use Prim.Native.Nat.{ℕ, _+_, _*_}
 use borrow.Author.Needs.{needs}
 use lib.ListN.{length-append}
-use Rattle.osp.specs.Interface.{returned}
+use Rattle.reader.specs.Interface.{returned}
 use Rattle.telegram.proofs.Outcomes.{fit-small, fit-done, told-refused, told-done}
-use Rattle.osp.proofs.Giving.{two-copies}
+use Rattle.telegram.proofs.Front.{two-copies}
 use Rattle.osp.proofs.given.give.Statement.{statement}
 use Rattle.osp.proofs.given.give.Tie as tie
 

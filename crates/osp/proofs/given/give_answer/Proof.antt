@@ -9,7 +9,7 @@ use Rattle.telegram.proofs.Outcomes.{told-same}
 use Rattle.answer.specs.Answers.{answerLayoutOf, answerMessageOf, replyOf}
 use Rattle.command.proofs.LaidOut.{LaidOut, laid-out}
 use Rattle.answer.proofs.Widths.{answer-short}
-use Rattle.osp.specs.Interface.{returned}
+use Rattle.reader.specs.Interface.{returned}
 use Rattle.osp.proofs.Giving.{parts-short, parts-taken, reply-bytes}
 use Rattle.osp.proofs.given.give_answer.Statement.{statement}
 use Rattle.osp.proofs.given.give_answer.Tie as tie

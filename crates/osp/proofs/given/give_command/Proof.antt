@@ -10,7 +10,7 @@ use Rattle.command.specs.Fields.{layoutOf}
 use Rattle.command.specs.Commands.{messageOf, sentAs}
 use Rattle.command.proofs.LaidOut.{LaidOut, laid-out}
 use Rattle.command.proofs.Sound.{command-short}
-use Rattle.osp.specs.Interface.{returned}
+use Rattle.reader.specs.Interface.{returned}
 use Rattle.osp.proofs.Giving.{parts-short, parts-taken, sent-bytes}
 use Rattle.osp.proofs.given.give_command.Statement.{statement}
 use Rattle.osp.proofs.given.give_command.Tie as tie

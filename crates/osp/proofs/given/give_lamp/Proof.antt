@@ -4,7 +4,7 @@ use mathlib.Core.Path.{ap}
 use lib.ListN.{length}
 use Rattle.telegram.specs.Numbers.{fitted}
 use Rattle.telegram.proofs.Outcomes.{told-same}
-use Rattle.osp.specs.Interface.{returned}
+use Rattle.reader.specs.Interface.{returned}
 use Rattle.osp.proofs.ChainCalls.{lamp-given}
 use borrow.Author.Needs.{needs}
 use Rattle.osp.proofs.given.give_lamp.Statement.{statement}

@@ -5,7 +5,7 @@ use borrow.Author.Needs.{needs}
 use lib.ListN.{length}
 use Rattle.telegram.specs.Numbers.{fitted}
 use Rattle.telegram.proofs.Outcomes.{told-same}
-use Rattle.osp.specs.Interface.{returned}
+use Rattle.reader.specs.Interface.{returned}
 use Rattle.osp.proofs.Giving.{read-bytes}
 use Rattle.osp.proofs.given.give_telegram.Statement.{statement}
 use Rattle.osp.proofs.given.give_telegram.Tie as tie

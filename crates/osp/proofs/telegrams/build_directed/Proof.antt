@@ -4,7 +4,8 @@ use mathlib.Core.Path.{_∙_, refl, sym, ap}
 use borrow.Author.Needs.{needs}
 use lib.ListN.{length}
 use Rattle.telegram.proofs.Outcomes.{after-refused, after-done, told-refused, told-same}
-use Rattle.osp.specs.Interface.{packed, returned, directedAs, buildingDirected}
+use Rattle.reader.specs.Interface.{packed, returned}
+use Rattle.osp.specs.Interface.{directedAs, buildingDirected}
 use Rattle.osp.proofs.Giving.{count-short, command-built-short}
 use Rattle.osp.proofs.telegrams.build_directed.Statement.{statement}
 use Rattle.osp.proofs.telegrams.build_directed.Tie as tie

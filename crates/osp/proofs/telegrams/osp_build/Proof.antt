@@ -4,7 +4,7 @@ use mathlib.Core.Path.{_∙_, refl, ap}
 use borrow.Author.Needs.{needs}
 use Rattle.telegram.proofs.Outcomes.{told-refused}
 use Rattle.telegram.proofs.Building.{build-address, build-command}
-use Rattle.osp.specs.Interface.{packed, returned}
+use Rattle.reader.specs.Interface.{packed, returned}
 use Rattle.osp.proofs.Giving.{count-short, built-short}
 use Rattle.osp.proofs.telegrams.osp_build.Statement.{statement}
 use Rattle.osp.proofs.telegrams.osp_build.Tie as tie

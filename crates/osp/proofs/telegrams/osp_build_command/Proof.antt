@@ -7,7 +7,8 @@ use Rattle.telegram.proofs.Outcomes.{after-refused, after-done, told-refused, t
 use Rattle.command.specs.Commands.{composedAs}
 use Rattle.table.proofs.Table.{row-high}
 use Rattle.command.proofs.Naming.{compose-unknown}
-use Rattle.osp.specs.Interface.{returned, ospBuildCommand}
+use Rattle.reader.specs.Interface.{returned}
+use Rattle.osp.specs.Interface.{ospBuildCommand}
 use Rattle.osp.proofs.telegrams.osp_build_command.Statement.{statement}
 use Rattle.osp.proofs.telegrams.osp_build_command.Tie as tie
 

@@ -6,7 +6,8 @@ use lib.ListN.{length}
 use Rattle.telegram.proofs.Outcomes.{after-refused, after-done, told-refused, told-same}
 use Rattle.command.specs.Commands.{Message, messageOf, buildingCommand}
 use Rattle.command.specs.declared.Command.the-variants.{SetPwm}
-use Rattle.osp.specs.Interface.{packed, returned, directedAs, buildingDirected, pwmMessage, ospBuildPwm}
+use Rattle.reader.specs.Interface.{packed, returned}
+use Rattle.osp.specs.Interface.{directedAs, buildingDirected, pwmMessage, ospBuildPwm}
 use Rattle.osp.proofs.BuildPwm.{modes-out, red-out, green-out, blue-out, pwm-directed, pwm-message}
 use Rattle.osp.proofs.Giving.{count-short, command-built-short}
 use Rattle.osp.proofs.telegrams.osp_build_pwm.Statement.{statement}

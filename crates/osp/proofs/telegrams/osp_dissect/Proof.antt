@@ -4,7 +4,8 @@ use mathlib.Core.Path.{_∙_, sym, ap}
 use borrow.Author.Needs.{needs}
 use Rattle.telegram.proofs.Outcomes.{after-refused, after-done, told-refused, told-same}
 use Rattle.command.specs.Commands.{dissectionAs}
-use Rattle.osp.specs.Interface.{returned, ospDissect}
+use Rattle.reader.specs.Interface.{returned}
+use Rattle.osp.specs.Interface.{ospDissect}
 use Rattle.osp.proofs.telegrams.osp_dissect.Statement.{statement}
 use Rattle.osp.proofs.telegrams.osp_dissect.Tie as tie
 

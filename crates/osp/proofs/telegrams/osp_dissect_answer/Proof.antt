@@ -4,7 +4,8 @@ use mathlib.Core.Path.{_∙_, sym, ap}
 use borrow.Author.Needs.{needs}
 use Rattle.telegram.proofs.Outcomes.{after-refused, after-done, told-refused, told-same}
 use Rattle.answer.specs.Answers.{replyAs}
-use Rattle.osp.specs.Interface.{returned, ospDissectAnswer}
+use Rattle.reader.specs.Interface.{returned}
+use Rattle.osp.specs.Interface.{ospDissectAnswer}
 use Rattle.osp.proofs.telegrams.osp_dissect_answer.Statement.{statement}
 use Rattle.osp.proofs.telegrams.osp_dissect_answer.Tie as tie
 

@@ -8,7 +8,8 @@ use Rattle.telegram.specs.Numbers.{done}
 use Rattle.telegram.specs.Telegram.{reading, readAs}
 use Rattle.telegram.proofs.Outcomes.{after-refused, after-done, told-refused, told-same}
 use Rattle.telegram.proofs.Reading.{accepted-count, accepted-size, refusal-is}
-use Rattle.osp.specs.Interface.{returned, ospRead}
+use Rattle.reader.specs.Interface.{returned}
+use Rattle.osp.specs.Interface.{ospRead}
 use Rattle.osp.proofs.telegrams.osp_read.Statement.{statement}
 use Rattle.osp.proofs.telegrams.osp_read.Tie as tie
 

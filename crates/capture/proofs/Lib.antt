@@ -1,0 +1,14 @@
+pub mod States
+pub mod Padding
+pub mod Twelve
+pub mod Runs
+pub mod Telegrams
+pub mod Feeding
+pub mod Taken
+pub mod Scanning
+pub mod Cutting
+pub mod Accepting
+pub mod Repeating
+pub mod Reached
+pub mod Eleven
+pub mod Walks

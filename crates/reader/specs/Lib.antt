@@ -1,0 +1,4 @@
+pub mod Layout
+pub mod Interface
+pub mod Kept
+pub mod Resting
