@@ -1,9 +1,11 @@
 /*
  * A chain of nine lamps over the C interface: a sensor report, an init and its answer, SETPWM for one lamp and what
- * the lamp holds then, a telegram with a wrong checksum and the flag that it leaves.
+ * the lamp holds then, a telegram with a wrong checksum and the flag that it leaves. Then a capture that arrives in
+ * chunks.
  *
  *     gcc -std=c99 -I include examples/c/board.c target/staticlib/libosp.a -o board && ./board
  */
+#include <inttypes.h>
 #include <stdio.h>
 #include <stdlib.h>
 
@@ -52,6 +54,36 @@ static void print_colour(const char *name, const uint8_t *word)
     printf(", %s %s %u", name, w / 32768u == 1 ? "day" : "night", w % 32768u);
 }
 
+/* Reads all telegrams of a chunk and prints each with the position of its first byte in the capture. */
+static void read_chunk(uint8_t *reader, size_t len, const uint8_t *chunk, size_t size)
+{
+    uint8_t telegram[OSP_TELEGRAM_MAX];
+    size_t at = 0, n;
+
+    /* Count 0: no further telegram is whole; the reader carries what it has of one to the next chunk. */
+    while ((n = done("capture", osp_reader_next(reader, len, chunk, size, &at, telegram, sizeof telegram))) > 0) {
+        printf("at %" PRIu64 ":", osp_reader_position(reader, len) - n);
+        print_bytes("", telegram, n);
+    }
+}
+
+/* Reads three telegrams that arrive in three chunks, cut inside the second and the third. */
+static void read_capture(void)
+{
+    static const uint8_t first[] = {0xA0, 0x04, 0x02, 0xA9, 0xA0, 0x25};
+    static const uint8_t second[] = {0x02, 0x6B, 0x40, 0xD1, 0xA0, 0x17, 0x4F};
+    static const uint8_t third[] = {0x03, 0xE8, 0x87, 0xD0, 0x00, 0x00, 0xB4};
+    uint8_t reader[OSP_READER_LEN] = {0}; /* all zeros is a fresh reader */
+
+    read_chunk(reader, sizeof reader, first, sizeof first);
+    read_chunk(reader, sizeof reader, second, sizeof second);
+    read_chunk(reader, sizeof reader, third, sizeof third);
+
+    /* Bytes of an unfinished telegram would be refused here. */
+    done("end of the capture", osp_reader_end(reader, sizeof reader));
+    printf("capture ended at %" PRIu64 "\n", osp_reader_position(reader, sizeof reader));
+}
+
 int main(void)
 {
     static const uint8_t init[] = {0xA0, 0x04, 0x02, 0xA9};    /* INITBIDIR from 1 */
@@ -94,5 +126,6 @@ int main(void)
     printf("lamp 1: status %02X, CE is %s\n", (unsigned)parts[4], (parts[4] & STATUS_CE) != 0 ? "set" : "not set");
 
     free(record);
+    read_capture();
     return 0;
 }

@@ -1,22 +1,27 @@
 """A chain of nine lamps over the C interface: a sensor report, an init and its answer, SETPWM for one lamp and what
-the lamp holds then, a telegram with a wrong checksum and the flag that it leaves.
+the lamp holds then, a telegram with a wrong checksum and the flag that it leaves. Then a capture that arrives in
+chunks.
 
     examples/shared-object && python3 examples/python/board.py
 """
 
 import ctypes
 import sys
-from ctypes import c_char_p, c_size_t, c_uint8, c_uint32
+from ctypes import POINTER, byref, c_char_p, c_size_t, c_uint8, c_uint32, c_uint64
 from pathlib import Path
 
 SHARED_OBJECT = Path(__file__).resolve().parents[2] / "target" / "shared" / "libosp.so"
 
+READER_LEN = 21
 LAMPS = 9
 ONE = 1
 READSTATUS = 0x40
 STATUS_CE = 0x08
 
-# The arguments of the functions of include/osp.h that are called here. Each returns a uint32_t.
+# Three telegrams as a logger hands them over, cut inside the second and the third.
+CHUNKS = [bytes.fromhex(chunk) for chunk in ("A0 04 02 A9 A0 25", "02 6B 40 D1 A0 17 4F", "03 E8 87 D0 00 00 B4")]
+
+# The arguments of the functions of include/osp.h that are called here. Each but the last returns a uint32_t.
 ARGUMENTS = {
     "osp_record_len": [c_uint32],
     "osp_make": [c_char_p, c_size_t, c_uint32, c_uint8, c_uint8, c_uint8, c_uint8],
@@ -26,6 +31,9 @@ ARGUMENTS = {
     "osp_build_pwm": [c_uint32] * 6 + [c_char_p, c_size_t],
     "osp_build_command": [c_uint32, c_uint32, c_uint32, c_char_p, c_size_t, c_char_p, c_size_t],
     "osp_dissect_answer": [c_char_p, c_size_t, c_char_p, c_size_t],
+    "osp_reader_next": [c_char_p, c_size_t, c_char_p, c_size_t, POINTER(c_size_t), c_char_p, c_size_t],
+    "osp_reader_end": [c_char_p, c_size_t],
+    "osp_reader_position": [c_char_p, c_size_t],
 }
 
 
@@ -43,6 +51,7 @@ def load(path):
         function = getattr(library, name)
         function.argtypes = arguments
         function.restype = c_uint32
+    library.osp_reader_position.restype = c_uint64
     return library
 
 
@@ -82,6 +91,29 @@ class Chain:
     def lamp(self, place):
         """Reads out the lamp at a place, 18 bytes."""
         return written(osp.osp_lamp, self.record, self.len, place, room=18)
+
+
+class Reader:
+    """A reader of a capture that arrives in chunks. All zeros is a fresh one."""
+
+    def __init__(self):
+        self.state = ctypes.create_string_buffer(READER_LEN)
+
+    def telegrams(self, chunk):
+        """The telegrams of a chunk, each with the position of its first byte in the capture. The reader carries what it
+        has of an unfinished one to the next chunk."""
+        at = c_size_t(0)
+        arguments = (self.state, READER_LEN, chunk, len(chunk), byref(at))
+        while telegram := written(osp.osp_reader_next, *arguments, room=12):
+            yield self.position() - len(telegram), telegram
+
+    def end(self):
+        """Ends the capture. Bytes of an unfinished telegram are refused."""
+        done(osp.osp_reader_end(self.state, READER_LEN))
+
+    def position(self):
+        """How many bytes of the capture were telegrams so far."""
+        return osp.osp_reader_position(self.state, READER_LEN)
 
 
 def build_pwm(address, modes, red, green, blue):
@@ -142,6 +174,13 @@ def main():
     answer = deliver(chain, build_command(READSTATUS, 1, b""))
     status = answer_bytes(answer)[0]
     print(f"lamp 1: status {status:02X}, CE is {'set' if status & STATUS_CE else 'not set'}")
+
+    reader = Reader()
+    for chunk in CHUNKS:
+        for position, telegram in reader.telegrams(chunk):
+            print(f"at {position}:", in_hex(telegram))
+    reader.end()
+    print(f"capture ended at {reader.position()}")
 
 
 main()

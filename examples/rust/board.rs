@@ -1,5 +1,6 @@
 //! A chain of nine lamps over the C interface: a sensor report, an init and its answer, SETPWM for one lamp and what
-//! the lamp holds then, a telegram with a wrong checksum and the flag that it leaves.
+//! the lamp holds then, a telegram with a wrong checksum and the flag that it leaves. Then a capture that arrives in
+//! chunks.
 //!
 //!     rustc --edition 2021 -L native=target/staticlib examples/rust/board.rs && ./board
 
@@ -20,9 +21,22 @@ mod c {
             command: u32, cast: u32, value: u32, payload: *const u8, n: usize, out: *mut u8, room: usize,
         ) -> u32;
         pub fn osp_dissect_answer(s: *const u8, n: usize, out: *mut u8, room: usize) -> u32;
+        pub fn osp_reader_next(
+            reader: *mut u8, len: usize, chunk: *const u8, n: usize, at: *mut usize, out: *mut u8, room: usize,
+        ) -> u32;
+        pub fn osp_reader_end(reader: *mut u8, len: usize) -> u32;
+        pub fn osp_reader_position(reader: *const u8, len: usize) -> u64;
     }
 }
 
+/// Three telegrams as a logger hands them over, cut inside the second and the third.
+const CHUNKS: [&[u8]; 3] = [
+    &[0xA0, 0x04, 0x02, 0xA9, 0xA0, 0x25],
+    &[0x02, 0x6B, 0x40, 0xD1, 0xA0, 0x17, 0x4F],
+    &[0x03, 0xE8, 0x87, 0xD0, 0x00, 0x00, 0xB4],
+];
+
+const READER_LEN: usize = 21;
 const LAMPS: u32 = 9;
 const ONE: u32 = 1;
 const READSTATUS: u32 = 0x40;
@@ -92,6 +106,35 @@ impl Chain {
         let (record, len) = (self.record.as_ptr(), self.record.len());
         let result = unsafe { c::osp_lamp(record, len, place, room.as_mut_ptr(), room.len()) };
         written(result, &room)
+    }
+}
+
+/// A reader of a capture that arrives in chunks. All zeros is a fresh one.
+struct Reader {
+    state: [u8; READER_LEN],
+}
+
+impl Reader {
+    /// The next telegram of a chunk, from an index on, which moves. No bytes when no further one is whole; the reader
+    /// carries what it has of one to the next chunk.
+    fn next(&mut self, chunk: &[u8], at: &mut usize) -> Result<Vec<u8>, Refusal> {
+        let mut room = [0; 12];
+        let (state, len) = (self.state.as_mut_ptr(), self.state.len());
+        let (bytes, n) = (chunk.as_ptr(), chunk.len());
+        let result =
+            unsafe { c::osp_reader_next(state, len, bytes, n, at, room.as_mut_ptr(), room.len()) };
+        written(result, &room)
+    }
+
+    /// Ends the capture. Bytes of an unfinished telegram are refused.
+    fn end(&mut self) -> Result<(), Refusal> {
+        let result = unsafe { c::osp_reader_end(self.state.as_mut_ptr(), self.state.len()) };
+        written(result, &[]).map(|_| ())
+    }
+
+    /// How many bytes of the capture were telegrams so far.
+    fn position(&self) -> u64 {
+        unsafe { c::osp_reader_position(self.state.as_ptr(), self.state.len()) }
     }
 }
 
@@ -179,6 +222,27 @@ fn colour(name: &str, word: &[u8]) -> String {
     )
 }
 
+/// Reads the chunks and prints each telegram with the position of its first byte in the capture.
+fn read_capture() -> Result<(), Refusal> {
+    let mut reader = Reader {
+        state: [0; READER_LEN],
+    };
+    for chunk in CHUNKS {
+        let mut at = 0;
+        loop {
+            let telegram = reader.next(chunk, &mut at)?;
+            if telegram.is_empty() {
+                break;
+            }
+            let position = reader.position().wrapping_sub(telegram.len() as u64);
+            print_bytes(&format!("at {position}:"), &telegram);
+        }
+    }
+    reader.end()?;
+    println!("capture ended at {}", reader.position());
+    Ok(())
+}
+
 fn main() -> Result<(), Refusal> {
     let mut chain = Chain::make(LAMPS, 0x13, [0x03, 0xE6, 0xF0])?;
     println!("{LAMPS} lamps in {} bytes", chain.record.len());
@@ -213,5 +277,5 @@ fn main() -> Result<(), Refusal> {
             "not set"
         }
     );
-    Ok(())
+    read_capture()
 }

@@ -68,7 +68,7 @@ fn make_chain(s: &[u8], memory: &mut [u8]) -> usize {
 }
 
 // Fills the chain memory.
-fn fill(memory: &mut [u8]) {
+pub(crate) fn fill(memory: &mut [u8]) {
     let mut i = 0;
     while i < memory.len() {
         memory[i] = FILL;
@@ -83,7 +83,7 @@ fn overwrite(s: &[u8], memory: &mut [u8]) {
 }
 
 // Copies the bytes that fit.
-fn put_all(src: &[u8], dst: &mut [u8]) {
+pub(crate) fn put_all(src: &[u8], dst: &mut [u8]) {
     let mut i = 0;
     while i < src.len() {
         put_one(dst, i, src[i]);

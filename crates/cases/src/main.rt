@@ -1,10 +1,13 @@
 // Runs a file of cases over the C interface: a line of standard input a case, the line and its result to standard output.
 // The cases are the captures of documents 001 and 002 and the edges of document 01; crates/cases/stdin has the form of a line.
+mod captures;
 mod chains;
 mod line;
 mod printing;
 mod telegrams;
 
+use captures::of_a_reader;
+use captures::run_reader;
 use chains::of_a_chain;
 use chains::run_chain;
 use libc::STDIN_FILENO;
@@ -50,6 +53,9 @@ fn run_line(line: &[u8], memory: &mut [u8], lent: usize) -> usize {
     let k = text::within(case.used, &s);
     if of_a_chain(operation) {
         return run_chain(operation, &s[..k], memory, lent);
+    }
+    if of_a_reader(operation) {
+        return run_reader(operation, &s[..k], memory, lent);
     }
     run_case(operation, &s[..k]);
     lent

@@ -53,11 +53,31 @@ pub(crate) fn print_record(memory: &[u8], lent: usize) {
 // The length of a record, as four bytes.
 pub(crate) fn print_length(n: u32) {
     print(b"  ");
+    print_long(n);
+    print(b"\n");
+}
+
+// The index that a reader left, as four bytes.
+pub(crate) fn print_index(at: usize) {
+    print(b"  at ");
+    print_long((at % 4294967296) as u32);
+    print(b"\n");
+}
+
+// A position, as eight bytes.
+pub(crate) fn print_position(p: u64) {
+    print(b"  ");
+    print_long((p / 4294967296) as u32);
+    print_long((p % 4294967296) as u32);
+    print(b"\n");
+}
+
+// Four bytes, high byte first.
+fn print_long(n: u32) {
     print_hex((n / 16777216 % 256) as u8);
     print_hex((n / 65536 % 256) as u8);
     print_hex((n / 256 % 256) as u8);
     print_hex((n % 256) as u8);
-    print(b"\n");
 }
 
 pub(crate) fn print(s: &[u8]) {

@@ -1,8 +1,8 @@
-//! Memory for one call: the record, the input and the room, guard bytes around
-//! each.
+//! Memory for one call: the record, the input, the room and a reader's index,
+//! guards around each.
 
 use crate::random::Random;
-use reference::case::Case;
+use reference::case::{Case, Lent};
 use reference::wire::Side;
 use std::ops::Range;
 
@@ -16,6 +16,8 @@ pub struct Arena {
     record: Range<usize>,
     input: Range<usize>,
     room: Range<usize>,
+    /// A reader's index between two guards.
+    at: [usize; 3],
 }
 
 impl Arena {
@@ -32,24 +34,27 @@ impl Arena {
         };
         let (record, input, room) = (lay(record), lay(&case.bytes), lay(&room));
         memory.extend(random.bytes(GUARD));
+        let at = [random.bits() as usize, case.at(), random.bits() as usize];
         Arena {
             memory,
             record,
             input,
             room,
+            at,
         }
     }
 
     /// Makes the call in this memory.
-    pub fn run(&mut self, case: &Case, side: &Side) -> u32 {
+    pub fn run(&mut self, case: &Case, side: &Side) -> u64 {
         let (front, back) = self.memory.split_at_mut(self.room.start);
         let (chain, input) = front.split_at_mut(self.input.start);
-        case.run(
-            side,
-            &mut chain[self.record.clone()],
-            &input[..self.input.len()],
-            &mut back[..self.room.len()],
-        )
+        let lent = Lent {
+            record: &mut chain[self.record.clone()],
+            bytes: &input[..self.input.len()],
+            at: &mut self.at[1],
+            room: &mut back[..self.room.len()],
+        };
+        case.run(side, lent)
     }
 
     /// The record.
@@ -60,6 +65,11 @@ impl Arena {
     /// The room.
     pub fn room(&self) -> &[u8] {
         &self.memory[self.room.clone()]
+    }
+
+    /// The index between its guards.
+    pub fn index(&self) -> [usize; 3] {
+        self.at
     }
 
     /// The first place, if any, that differs from another arena of the same

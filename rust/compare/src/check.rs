@@ -4,13 +4,14 @@ use crate::arena::Arena;
 use crate::chains::{lamps, slot, SLOT};
 use crate::library::LIBRARY;
 use crate::random::Random;
+use reference::capture::reader;
 use reference::case::{Call, Case};
 use reference::wire::REFERENCE;
 use std::fmt::Write;
 use std::ops::Range;
 
 /// The functions in the order in which they are counted.
-pub const FUNCTIONS: [&str; 12] = [
+pub const FUNCTIONS: [&str; 15] = [
     "osp_checksum",
     "osp_read",
     "osp_build",
@@ -23,6 +24,9 @@ pub const FUNCTIONS: [&str; 12] = [
     "osp_deliver",
     "osp_sense",
     "osp_lamp",
+    "osp_reader_next",
+    "osp_reader_end",
+    "osp_reader_position",
 ];
 
 /// The most slots of a record that a report shows.
@@ -43,13 +47,20 @@ fn function(call: &Call) -> usize {
         Call::Deliver => 9,
         Call::Sense { .. } => 10,
         Call::Lamp { .. } => 11,
+        Call::Next { .. } => 12,
+        Call::End => 13,
+        Call::Position => 14,
     }
 }
 
-/// What both sides agreed on: the number, and the bytes written.
+/// What both sides agreed on.
 pub struct Agreed {
-    pub number: u32,
+    /// The result as it was given back, and the number in it.
+    pub result: u64,
+    pub number: u64,
     pub written: Vec<u8>,
+    /// Where a reader stands in its chunk.
+    pub at: usize,
 }
 
 /// Compares calls and counts them.
@@ -57,6 +68,7 @@ pub struct Checker {
     guards: Random,
     counts: [u64; FUNCTIONS.len()],
     round_trips: u64,
+    captures: u64,
 }
 
 impl Checker {
@@ -66,6 +78,7 @@ impl Checker {
             guards: Random::new(!seed),
             counts: [0; FUNCTIONS.len()],
             round_trips: 0,
+            captures: 0,
         }
     }
 
@@ -91,6 +104,10 @@ impl Checker {
             (format!("{} was changed", before.place(at)), Some(at))
         } else if let Some(at) = ours.change(&theirs, 0..0, 0) {
             (format!("{} differs", before.place(at)), Some(at))
+        } else if ours.index() != theirs.index() {
+            let (is, should) = (theirs.index(), ours.index());
+            let fault = format!("the index between its guards is {is:X?}, should be {should:X?}");
+            (fault, None)
         } else {
             record.copy_from_slice(theirs.record());
             return Ok(agreed(case, given, &theirs));
@@ -124,6 +141,11 @@ impl Checker {
         Ok(())
     }
 
+    /// Counts a capture that was read in chunks.
+    pub fn capture_read(&mut self) {
+        self.captures += 1;
+    }
+
     /// The calls compared so far.
     pub fn total(&self) -> u64 {
         self.counts.iter().sum()
@@ -143,10 +165,15 @@ impl Checker {
     pub fn round_trips(&self) -> u64 {
         self.round_trips
     }
+
+    /// The captures that were read in chunks.
+    pub fn captures(&self) -> u64 {
+        self.captures
+    }
 }
 
 /// How many bytes of the room a call may have written.
-fn written(case: &Case, result: u32) -> usize {
+fn written(case: &Case, result: u64) -> usize {
     let (number, count) = (result % 256, result / 256);
     if number == 0 && !case.call.is_plain() {
         count as usize
@@ -156,28 +183,31 @@ fn written(case: &Case, result: u32) -> usize {
 }
 
 /// Which bytes of the record a call may have changed.
-fn touched(case: &Case, result: u32, record: &[u8]) -> Range<usize> {
+fn touched(case: &Case, result: u64, record: &[u8]) -> Range<usize> {
     let status = |place| slot(place) + 2;
     match (case.call, result % 256) {
         (Call::Make { count, .. }, 0) => 0..slot(count as usize),
         (Call::Deliver, 0) => slot(0)..slot(lamps(record)),
         (Call::Deliver, 5) => status(0)..status(0) + 1,
         (Call::Sense { place, .. }, 0) => status(place as usize)..status(place as usize) + 2,
+        (Call::Next { .. } | Call::End, 0..=5) => 0..reader::LENGTH,
         _ => 0..0,
     }
 }
 
 /// The result of a call on which both sides agreed.
-fn agreed(case: &Case, result: u32, arena: &Arena) -> Agreed {
-    let count = written(case, result);
+fn agreed(case: &Case, result: u64, arena: &Arena) -> Agreed {
+    let (count, [_, at, _]) = (written(case, result), arena.index());
     Agreed {
+        result,
         number: result % 256,
         written: arena.room().iter().take(count).copied().collect(),
+        at,
     }
 }
 
 /// The text of a difference.
-fn describe(case: &Case, fault: &str, library: (u32, &Arena), reference: (u32, &Arena)) -> String {
+fn describe(case: &Case, fault: &str, library: (u64, &Arena), reference: (u64, &Arena)) -> String {
     let mut text = format!("{fault}: {}\n", input(case));
     for (side, (result, arena)) in [("library", library), ("reference", reference)] {
         let (number, count) = (result % 256, result / 256);
@@ -260,6 +290,7 @@ pub fn input(case: &Case) -> String {
             faults,
         } => format!(" place {place} temperature {temperature} faults {faults}"),
         Call::Lamp { place } => format!(" place {place}"),
+        Call::Next { at } => format!(" at {at}"),
         _ => String::new(),
     };
     let (size, room, bytes) = (case.bytes.len(), case.room, hex(&case.bytes));

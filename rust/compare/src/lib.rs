@@ -7,24 +7,34 @@
 //! - [`suites`]: the inputs that are compared.
 //! - [`chains`]: chains and what is given to them.
 //! - [`chain_suites`]: the calls on chains that are compared.
+//! - [`captures`]: captures, how they are cut, and states of their reader.
+//! - [`capture_suites`]: the calls on the reader of captures that are compared.
 //! - [`lists`]: demand 3 of document 01, tried on the library alone.
 //! - [`scripts`]: scripts for the replay.
+//! - [`raw`]: raw captures for the tool.
+//! - [`programs`]: programs that are called, and what they print.
 //! - [`random`]: the seeded source of them.
 //! - [`workloads`]: the calls that are timed.
+//! - [`incremental`]: a reader of captures that the library's is timed beside.
 //! - [`callgrind`]: how many instructions a program takes.
-//! - [`arguments`]: the numbers among a program's arguments.
+//! - [`arguments`]: what a program is called with, and how it ends.
 
 pub mod arena;
 pub mod arguments;
 pub mod callgrind;
+pub mod capture_suites;
+pub mod captures;
 pub mod chain_suites;
 pub mod chains;
 pub mod check;
+pub mod incremental;
 #[cfg_attr(feature = "self-test", path = "stand_in.rs")]
 pub mod library;
 pub mod lists;
 pub mod material;
+pub mod programs;
 pub mod random;
+pub mod raw;
 pub mod scripts;
 pub mod suites;
 pub mod workloads;

@@ -67,6 +67,17 @@ mod raw {
             out: *mut u8,
             room: usize,
         ) -> u32;
+        pub fn osp_reader_next(
+            reader: *mut u8,
+            len: usize,
+            chunk: *const u8,
+            n: usize,
+            at: *mut usize,
+            out: *mut u8,
+            room: usize,
+        ) -> u32;
+        pub fn osp_reader_end(reader: *mut u8, len: usize) -> u32;
+        pub fn osp_reader_position(reader: *const u8, len: usize) -> u64;
     }
 }
 
@@ -85,11 +96,14 @@ pub static LIBRARY: Side = Side {
     deliver,
     sense,
     lamp,
+    reader_next,
+    reader_end,
+    reader_position,
 };
 
-// Safety of every call below: a slice is valid memory of its length, room and
-// record are lent for writing, and the library keeps no pointer after it
-// returns.
+// Safety of every call below: a slice is valid memory of its length, room,
+// record, state and index are lent for writing, and the library keeps no pointer
+// after it returns.
 
 #[inline(never)]
 fn checksum(bytes: &[u8]) -> u8 {
@@ -166,4 +180,22 @@ fn sense(record: &mut [u8], place: u32, temperature: u8, faults: u32) -> u32 {
 fn lamp(record: &[u8], place: u32, room: &mut [u8]) -> u32 {
     let (chain, length) = (record.as_ptr(), record.len());
     unsafe { raw::osp_lamp(chain, length, place, room.as_mut_ptr(), room.len()) }
+}
+
+#[inline(never)]
+fn reader_next(state: &mut [u8], chunk: &[u8], at: &mut usize, room: &mut [u8]) -> u32 {
+    let (reader, length) = (state.as_mut_ptr(), state.len());
+    let (input, size) = (chunk.as_ptr(), chunk.len());
+    let (out, rest) = (room.as_mut_ptr(), room.len());
+    unsafe { raw::osp_reader_next(reader, length, input, size, at, out, rest) }
+}
+
+#[inline(never)]
+fn reader_end(state: &mut [u8]) -> u32 {
+    unsafe { raw::osp_reader_end(state.as_mut_ptr(), state.len()) }
+}
+
+#[inline(never)]
+fn reader_position(state: &[u8]) -> u64 {
+    unsafe { raw::osp_reader_position(state.as_ptr(), state.len()) }
 }

@@ -15,10 +15,13 @@ use crate::material::*;
 use crate::random::Random;
 use edges::{LENGTHS, LONG_FORMS, MALFORMED};
 use reference::replay::Options;
-use telegrams::{refused, REFUSALS};
+use telegrams::REFUSALS;
 use writer::Writer;
 
 pub use edges::edges;
+pub use options::options;
+pub(crate) use telegrams::refused;
+pub(crate) use writer::made;
 
 /// A script, and how a program is called for it.
 pub struct Script {

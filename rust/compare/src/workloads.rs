@@ -1,13 +1,16 @@
 //! The calls that are timed. The workloads `last-...` are deliveries to the last
 //! lamp of a chain, `all-...` to everyone, `group-...` to a group of all; their
-//! names end with the number of lamps.
+//! names end with the number of lamps. `reader-...` are captures in chunks, of the
+//! size at the end of the name; a call there is a telegram.
 
 use crate::chains::{slot, MOST};
-use crate::material::{destination, fitting, KNOWN};
+use crate::material::{destination, fitting, good, KNOWN};
 use crate::material::{CLRERROR, GOACTIVE, INITBIDIR, READSTATUS, RESET, SETMULT, SETPWM};
 use crate::random::Random;
+use reference::capture::reader::LENGTH;
 use reference::wire::{Side, REFERENCE};
 use std::hint::black_box;
+use std::iter;
 use std::time::Instant;
 
 /// What SETPWM carries, and the same as modes and duties.
@@ -17,6 +20,8 @@ const DUTIES: [u32; 3] = [0x1234, 0, 0x7FFF];
 /// The address of a group that every lamp of a chain is in, and its group word.
 const GROUP: u32 = 0x3F3;
 const MEMBER: [u8; 2] = [0x00, 0x08];
+/// The most bytes of a capture.
+const CAPTURE: usize = 1 << 20;
 
 /// What is called.
 enum Job {
@@ -30,6 +35,12 @@ enum Job {
     Deliver {
         record: Vec<u8>,
         bytes: Vec<u8>,
+    },
+    /// A capture of so many telegrams in chunks of a size.
+    Capture {
+        run: Vec<u8>,
+        telegrams: usize,
+        size: usize,
     },
 }
 
@@ -45,6 +56,24 @@ fn repeat(times: usize, mut call: impl FnMut() -> u32) {
     for _ in 0..times {
         black_box(call());
     }
+}
+
+/// Reads a capture in chunks and hands each telegram over; gives the number that
+/// stopped it, or that of its end.
+fn read_capture(side: &Side, run: &[u8], size: usize, mut take: impl FnMut(&[u8])) -> u32 {
+    let (mut state, mut room) = ([0; LENGTH], [0; 16]);
+    for chunk in run.chunks(size) {
+        let mut at = 0;
+        while at < chunk.len() {
+            let result = (side.reader_next)(&mut state, chunk, &mut at, &mut room);
+            match (result % 256, result / 256) {
+                (0, 0) => break,
+                (0, count) => take(&room[..count as usize]),
+                (number, _) => return number,
+            }
+        }
+    }
+    (side.reader_end)(&mut state)
 }
 
 impl Workload {
@@ -81,13 +110,34 @@ impl Workload {
                     (side.deliver)(black_box(record), black_box(bytes), black_box(room))
                 });
             }
+            Job::Capture { run, size, .. } => repeat(times, || {
+                read_capture(side, black_box(run), *size, |telegram| {
+                    black_box(telegram);
+                })
+            }),
         }
+    }
+
+    /// Whether a side reads the capture whole, if there is one.
+    pub fn is_read(&self, side: &Side) -> bool {
+        let Job::Capture { run, size, .. } = &self.job else {
+            return true;
+        };
+        let mut joined: Vec<u8> = Vec::new();
+        let number = read_capture(side, run, *size, |telegram| joined.extend(telegram));
+        number == 0 && joined == *run
+    }
+
+    /// Whether a call is a telegram of a capture.
+    pub fn is_capture(&self) -> bool {
+        matches!(self.job, Job::Capture { .. })
     }
 
     /// The calls made in one turn.
     pub fn calls(&self) -> usize {
         match &self.job {
             Job::Dissect(set) => set.len() * self.repeats,
+            Job::Capture { telegrams, .. } => telegrams * self.repeats,
             _ => self.repeats,
         }
     }
@@ -171,7 +221,31 @@ fn plain_calls() -> [Workload; 8] {
     ]
 }
 
-/// All the workloads.
+/// A capture in chunks of one byte, of some, and of many.
+fn captures() -> [Workload; 3] {
+    let mut random = Random::new(1);
+    let (mut run, mut telegrams) = (Vec::new(), 0);
+    loop {
+        let telegram = good(&mut random);
+        if run.len() + telegram.len() > CAPTURE {
+            break;
+        }
+        run.extend(telegram);
+        telegrams += 1;
+    }
+    [("reader-1", 1), ("reader-7", 7), ("reader-4096", 4096)].map(|(name, size)| Workload {
+        name,
+        job: Job::Capture {
+            run: run.clone(),
+            telegrams,
+            size,
+        },
+        repeats: 1,
+    })
+}
+
+/// All the workloads; the captures are made when it is their turn.
 pub fn workloads() -> impl Iterator<Item = Workload> {
-    plain_calls().into_iter().chain(deliveries())
+    let calls = plain_calls().into_iter().chain(deliveries());
+    calls.chain(iter::once_with(captures).flatten())
 }

@@ -41,12 +41,21 @@ pub enum Call {
     Lamp {
         place: u32,
     },
+    /// The next telegram of a chunk, from an index on.
+    Next {
+        at: usize,
+    },
+    End,
+    Position,
 }
 
 impl Call {
     /// Whether the result is a plain value, without number and count.
     pub fn is_plain(&self) -> bool {
-        matches!(self, Call::Checksum | Call::RecordLen { .. })
+        matches!(
+            self,
+            Call::Checksum | Call::RecordLen { .. } | Call::Position
+        )
     }
 }
 
@@ -58,40 +67,62 @@ pub struct Case {
     pub room: usize,
 }
 
+/// The memory that is lent to a call. A call touches only what it has.
+pub struct Lent<'a> {
+    /// The record of a chain, or the state of a reader.
+    pub record: &'a mut [u8],
+    pub bytes: &'a [u8],
+    /// Where a reader stands in its chunk.
+    pub at: &'a mut usize,
+    pub room: &'a mut [u8],
+}
+
 impl Case {
-    /// Makes the call on one side, in these pieces of memory. A call touches
-    /// only those that it has: the record is for the chain alone.
-    pub fn run(&self, side: &Side, record: &mut [u8], bytes: &[u8], room: &mut [u8]) -> u32 {
+    /// Where a reader stands in its chunk before the call; 0 for other calls.
+    pub fn at(&self) -> usize {
         match self.call {
-            Call::Checksum => u32::from((side.checksum)(bytes)),
-            Call::Read => (side.read)(bytes, room),
-            Call::Dissect => (side.dissect)(bytes, room),
-            Call::DissectAnswer => (side.dissect_answer)(bytes, room),
-            Call::Build { address, command } => (side.build)(address, command, bytes, room),
+            Call::Next { at } => at,
+            _ => 0,
+        }
+    }
+
+    /// Makes the call on one side.
+    pub fn run(&self, side: &Side, lent: Lent) -> u64 {
+        u64::from(match self.call {
+            Call::Checksum => u32::from((side.checksum)(lent.bytes)),
+            Call::Read => (side.read)(lent.bytes, lent.room),
+            Call::Dissect => (side.dissect)(lent.bytes, lent.room),
+            Call::DissectAnswer => (side.dissect_answer)(lent.bytes, lent.room),
+            Call::Build { address, command } => {
+                (side.build)(address, command, lent.bytes, lent.room)
+            }
             Call::BuildCommand {
                 command,
                 cast,
                 value,
-            } => (side.build_command)(command, cast, value, bytes, room),
+            } => (side.build_command)(command, cast, value, lent.bytes, lent.room),
             Call::BuildPwm {
                 cast,
                 value,
                 modes,
                 duties: [red, green, blue],
-            } => (side.build_pwm)(cast, value, modes, red, green, blue, room),
+            } => (side.build_pwm)(cast, value, modes, red, green, blue, lent.room),
             Call::RecordLen { count } => (side.record_len)(count),
             Call::Make {
                 count,
                 setup,
                 thresholds: [t0, t1, t2],
-            } => (side.make)(record, count, setup, t0, t1, t2),
-            Call::Deliver => (side.deliver)(record, bytes, room),
+            } => (side.make)(lent.record, count, setup, t0, t1, t2),
+            Call::Deliver => (side.deliver)(lent.record, lent.bytes, lent.room),
             Call::Sense {
                 place,
                 temperature,
                 faults,
-            } => (side.sense)(record, place, temperature, faults),
-            Call::Lamp { place } => (side.lamp)(record, place, room),
-        }
+            } => (side.sense)(lent.record, place, temperature, faults),
+            Call::Lamp { place } => (side.lamp)(lent.record, place, lent.room),
+            Call::Next { .. } => (side.reader_next)(lent.record, lent.bytes, lent.at, lent.room),
+            Call::End => (side.reader_end)(lent.record),
+            Call::Position => return (side.reader_position)(lent.record),
+        })
     }
 }

@@ -6,7 +6,7 @@
 #[cfg(test)]
 mod tests;
 
-use crate::case::{Call, Case};
+use crate::case::{Call, Case, Lent};
 use crate::telegram::checksum;
 use crate::wire::Side;
 
@@ -21,7 +21,7 @@ const LARGEST_ROOM: usize = 32;
 const MEMORY: usize = 16_384;
 
 /// The chain memory, which the lines of a file share. Its first bytes are lent
-/// to the calls.
+/// to the calls, as a record or as the state of a reader.
 pub struct Memory {
     bytes: Vec<u8>,
     length: usize,
@@ -69,6 +69,10 @@ pub enum Line {
         at: usize,
         bytes: Vec<u8>,
     },
+    /// Lends memory with these bytes, the state of a reader.
+    Lend {
+        bytes: Vec<u8>,
+    },
 }
 
 impl Line {
@@ -96,6 +100,11 @@ impl Line {
                 memory.overwrite(*at, bytes);
                 None
             }
+            Line::Lend { bytes } => {
+                memory.lend(bytes.len());
+                memory.overwrite(0, bytes);
+                None
+            }
         }
     }
 
@@ -112,19 +121,29 @@ impl Line {
     /// Whether the line may change the chain memory.
     fn changes_memory(&self) -> bool {
         match self {
-            Line::Make { .. } | Line::Write { .. } => true,
-            Line::Call(case) => matches!(case.call, Call::Deliver | Call::Sense { .. }),
+            Line::Make { .. } | Line::Write { .. } | Line::Lend { .. } => true,
+            Line::Call(case) => matches!(
+                case.call,
+                Call::Deliver | Call::Sense { .. } | Call::Next { .. } | Call::End
+            ),
         }
     }
 }
 
 /// The result of a call as it is printed.
 fn report(case: &Case, side: &Side, record: &mut [u8]) -> String {
-    let mut room = vec![FILL; case.room];
-    let result = case.run(side, record, &case.bytes, &mut room);
+    let (mut room, mut at) = (vec![FILL; case.room], case.at());
+    let lent = Lent {
+        record,
+        bytes: &case.bytes,
+        at: &mut at,
+        room: &mut room,
+    };
+    let result = case.run(side, lent);
     match case.call {
         Call::Checksum => return format!("  {result:02X}\n"),
         Call::RecordLen { .. } => return format!("  {result:08X}\n"),
+        Call::Position => return format!("  {result:016X}\n"),
         _ => {}
     }
     let (number, count) = (result % 256, (result / 256) as usize);
@@ -139,6 +158,9 @@ fn report(case: &Case, side: &Side, record: &mut [u8]) -> String {
     let written = if number == 0 { count } else { 0 };
     if room.iter().skip(written).any(|&byte| byte != FILL) {
         text += "  room changed\n";
+    }
+    if matches!(case.call, Call::Next { .. }) {
+        text += &format!("  at {at:08X}\n");
     }
     text
 }
@@ -157,6 +179,7 @@ fn read_line(letter: char, rest: &str) -> Option<Line> {
             at: take_number(left)? as usize,
             bytes: left.to_vec(),
         }),
+        'o' => Some(Line::Lend { bytes }),
         _ => read_case(letter, left).map(Line::Call),
     }
 }
@@ -164,14 +187,15 @@ fn read_line(letter: char, rest: &str) -> Option<Line> {
 /// Reads a call: its room, its numbers and its input, as far as it has them.
 fn read_case(letter: char, left: &mut &[u8]) -> Option<Case> {
     let room = match letter {
-        's' | 'k' | 'm' | 'n' => 0,
+        's' | 'k' | 'm' | 'n' | 'e' | 'q' => 0,
         _ => usize::from(take_byte(left)?),
     };
     let call = match letter {
         'k' | 'm' | 't' | 'n' | 'l' => read_chain_call(letter, left)?,
+        'g' | 'e' | 'q' => read_reader_call(letter, left)?,
         _ => read_call(letter, left)?,
     };
-    let has_input = matches!(letter, 's' | 'r' | 'd' | 'a' | 'b' | 'c' | 't');
+    let has_input = matches!(letter, 's' | 'r' | 'd' | 'a' | 'b' | 'c' | 't' | 'g');
     let fits = room <= LARGEST_ROOM && (has_input || left.is_empty());
     fits.then(|| Case {
         call,
@@ -226,6 +250,18 @@ fn read_chain_call(letter: char, left: &mut &[u8]) -> Option<Call> {
         'l' => Call::Lamp {
             place: take_number(left)?,
         },
+        _ => return None,
+    })
+}
+
+/// Reads the numbers of a call on the reader of a capture.
+fn read_reader_call(letter: char, left: &mut &[u8]) -> Option<Call> {
+    Some(match letter {
+        'g' => Call::Next {
+            at: take_number(left)? as usize,
+        },
+        'e' => Call::End,
+        'q' => Call::Position,
         _ => return None,
     })
 }

@@ -25,7 +25,8 @@ pub enum Refusal {
     Room = 9,
     /// A builder's field, payload length or fault number is out of range.
     Range = 10,
-    /// The lamp count is out of range, or memory holds no valid chain.
+    /// The lamp count is out of range, or memory holds no valid chain, or a
+    /// state that no reading of a capture leaves.
     Chain = 11,
     /// An init would number lamps past 3EF.
     PastEnd = 12,

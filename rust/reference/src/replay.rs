@@ -1,6 +1,8 @@
-//! The replay of a script on a fresh chain, written from docs/TOOL.md.
+//! The replay of a script or a capture on a fresh chain, written from
+//! docs/TOOL.md.
 //!
 //! - [`arguments`]: how the program is called.
+//! - [`program`]: what it reads from and how it ends.
 //! - [`pieces`]: input cut into pieces of whole lines.
 //! - [`script`]: what a line says.
 //! - [`page`]: output, gathered before it is written.
@@ -8,16 +10,18 @@
 //! - [`text`] and [`json`]: the two forms of output.
 
 pub mod arguments;
-mod json;
-mod page;
+pub(crate) mod json;
+pub(crate) mod page;
 mod pieces;
+pub mod program;
 mod script;
 #[cfg(test)]
 mod tests;
-mod text;
-mod words;
+pub(crate) mod text;
+pub(crate) mod words;
 
 use crate::answer::Reply;
+use crate::capture::{self, Stand};
 use crate::chain::lamp::READ_OUT;
 use crate::chain::{self, Chain, Defaults};
 use crate::command::{Order, Pwm};
@@ -37,15 +41,28 @@ pub struct Options {
     /// Whether the lamps alone are printed.
     pub quiet: bool,
     pub json: bool,
+    /// Whether a raw capture is replayed, and no script.
+    pub raw: bool,
 }
 
-/// Why a replay ended early.
+/// Where a capture stopped, and why.
+#[derive(Clone, Copy, Debug, PartialEq, Eq)]
+pub struct Stop {
+    pub position: u64,
+    pub refusal: Refusal,
+}
+
+/// Why a program ended early.
 #[derive(Debug)]
 pub enum Failure {
+    /// It was called wrongly.
+    Use(String),
     /// The chain was refused.
     Chain(Refusal),
     /// The line with this number says nothing known, or is too long.
     Line(u64),
+    /// A capture stopped, of which the output does not tell.
+    Capture(Stop),
     Input(io::Error),
     Output(io::Error),
 }
@@ -53,9 +70,11 @@ pub enum Failure {
 impl Display for Failure {
     fn fmt(&self, out: &mut Formatter) -> fmt::Result {
         match self {
-            Failure::Chain(refusal) => {
-                let (number, words) = (refusal.number(), words::refusal(*refusal));
-                write!(out, "refused {number}: {words}")
+            Failure::Use(message) => out.write_str(message),
+            Failure::Chain(refusal) => out.write_str(&words::refused(*refusal)),
+            Failure::Capture(Stop { position, refusal }) => {
+                let refused = words::refused(*refusal);
+                write!(out, "capture stopped at position {position}: {refused}")
             }
             Failure::Line(number) => write!(
                 out,
@@ -71,13 +90,13 @@ impl Display for Failure {
 pub fn status(outcome: &Result<u64, Failure>) -> u8 {
     match outcome {
         Ok(0) => 0,
-        Ok(_) | Err(Failure::Chain(_)) => 1,
-        Err(Failure::Line(_) | Failure::Input(_) | Failure::Output(_)) => 2,
+        Ok(_) | Err(Failure::Chain(_) | Failure::Capture(_)) => 1,
+        Err(_) => 2,
     }
 }
 
-/// Does a script line by line and prints it, then the lamps. Gives the number
-/// of lines that were refused.
+/// Does a script line by line, or a capture telegram by telegram, and prints it,
+/// then the lamps. Gives the number of lines or telegrams that were refused.
 pub fn replay(options: &Options, input: impl Read, mut output: impl Write) -> Result<u64, Failure> {
     let lamps = options.lamps as usize;
     let mut record = vec![0; chain::length(lamps).unwrap_or(0)];
@@ -92,8 +111,11 @@ pub fn replay(options: &Options, input: impl Read, mut output: impl Write) -> Re
         page: Page::default(),
         refused: 0,
     };
-    let ended = replay.script(input, &mut output);
-    if ended.is_ok() {
+    let ended = match options.raw {
+        false => replay.script(input, &mut output),
+        true => replay.capture(input, &mut output),
+    };
+    if matches!(ended, Ok(()) | Err(Failure::Capture(_))) {
         replay.lamps(options, &mut output)?;
     }
     replay.page.write(&mut output).map_err(Failure::Output)?;
@@ -107,6 +129,27 @@ enum Print {
     Nothing,
     Text,
     Json,
+}
+
+/// Where a telegram or a report stands in what is replayed.
+#[derive(Clone, Copy)]
+struct Mark {
+    name: &'static str,
+    number: u64,
+}
+
+impl Mark {
+    /// In a line of a script.
+    fn line(number: u64) -> Mark {
+        let name = "line";
+        Mark { name, number }
+    }
+
+    /// At a position of a capture.
+    fn position(number: u64) -> Mark {
+        let name = "position";
+        Mark { name, number }
+    }
 }
 
 /// A telegram that was done, and the answer to it.
@@ -164,10 +207,11 @@ impl Replay<'_> {
         while let Some(mut text) = pieces.next().map_err(Failure::Input)? {
             while !text.is_empty() {
                 number += 1;
+                let mark = Mark::line(number);
                 match Line::take(&mut text).ok_or(Failure::Line(number))? {
                     Line::Nothing => {}
-                    Line::Telegram(sent) => self.telegram(number, &sent),
-                    Line::Sensor(report) => self.sensor(number, &report),
+                    Line::Telegram(sent) => self.telegram(mark, &sent),
+                    Line::Sensor(report) => self.sensor(mark, &report),
                 }
                 self.page.spill(output).map_err(Failure::Output)?;
             }
@@ -175,18 +219,46 @@ impl Replay<'_> {
         Ok(())
     }
 
+    /// Does all the telegrams of a capture, and tells where it stopped.
+    fn capture(&mut self, mut input: impl Read, output: &mut impl Write) -> Result<(), Failure> {
+        let mut run = Vec::new();
+        input.read_to_end(&mut run).map_err(Failure::Input)?;
+        let reading = capture::read(&run, 0, true);
+        let mut position = 0;
+        for telegram in reading.telegrams {
+            self.telegram(Mark::position(position), &Sent::of(telegram));
+            position += telegram.len() as u64;
+            self.page.spill(output).map_err(Failure::Output)?;
+        }
+        match reading.stand {
+            Stand::Stopped(refusal) => self.stop(Stop { position, refusal }),
+            Stand::Open | Stand::Ended => Ok(()),
+        }
+    }
+
+    /// Tells where the capture stopped, in the output or else as a failure.
+    fn stop(&mut self, stop: Stop) -> Result<(), Failure> {
+        self.refused += 1;
+        match self.print {
+            Print::Nothing => return Err(Failure::Capture(stop)),
+            Print::Text => text::stopped(&mut self.page, stop),
+            Print::Json => json::stopped(&mut self.page, stop),
+        }
+        Ok(())
+    }
+
     /// Delivers a telegram and prints what came of it.
-    fn telegram(&mut self, line: u64, sent: &Sent) {
+    fn telegram(&mut self, mark: Mark, sent: &Sent) {
         let refused = match self.print {
             Print::Nothing => self.deliver(sent).is_err(),
             Print::Text => {
                 let outcome = self.exchange(sent);
-                text::telegram(&mut self.page, line, sent, &outcome);
+                text::telegram(&mut self.page, mark, sent, &outcome);
                 outcome.is_err()
             }
             Print::Json => {
                 let outcome = self.exchange(sent);
-                json::telegram(&mut self.page, line, sent, &outcome);
+                json::telegram(&mut self.page, mark, sent, &outcome);
                 outcome.is_err()
             }
         };
@@ -218,14 +290,14 @@ impl Replay<'_> {
     }
 
     /// Does a sensor report and prints what came of it.
-    fn sensor(&mut self, line: u64, report: &Report) {
+    fn sensor(&mut self, mark: Mark, report: &Report) {
         let (place, faults) = (report.place, report.faults);
         let outcome = self.chain.sense(place, report.temperature, faults);
         self.refused += u64::from(outcome.is_err());
         match self.print {
             Print::Nothing => {}
-            Print::Text => text::sensor(&mut self.page, line, report, outcome),
-            Print::Json => json::sensor(&mut self.page, line, report, outcome),
+            Print::Text => text::sensor(&mut self.page, mark, report, outcome),
+            Print::Json => json::sensor(&mut self.page, mark, report, outcome),
         }
     }
 

@@ -52,6 +52,43 @@ pub fn exact<const N: usize>(payload: &[u8]) -> Result<[u8; N], Refusal> {
     payload.try_into().map_err(|_| Refusal::PayloadSize)
 }
 
+/// Whether a telegram's first byte starts with the preamble.
+pub fn has_preamble(first: u8) -> bool {
+    u32::from(first >> 4) == PREAMBLE
+}
+
+/// The first three bytes of a telegram as 24 bits, whatever they are.
+#[derive(Clone, Copy, Debug, PartialEq, Eq)]
+pub struct Header(u32);
+
+impl Header {
+    /// The header at the front of some bytes, if there are three.
+    pub fn of(bytes: &[u8]) -> Option<Header> {
+        let [b0, b1, b2] = *bytes.first_chunk::<HEADER>()?;
+        Some(Header(u32::from_be_bytes([0, b0, b1, b2])))
+    }
+
+    /// The ten-bit address.
+    pub fn address(self) -> u16 {
+        (self.0 >> 10 & 0x3FF) as u16
+    }
+
+    /// The three-bit size index.
+    fn index(self) -> u32 {
+        self.0 >> 7 & 0x7
+    }
+
+    /// The seven-bit command.
+    pub fn command(self) -> u8 {
+        (self.0 & 0x7F) as u8
+    }
+
+    /// The payload bytes that it announces; refuses size index 5 with 3.
+    pub fn size(self) -> Result<usize, Refusal> {
+        size_of_index(self.index()).ok_or(Refusal::SizeIndex)
+    }
+}
+
 /// Up to eight bytes of payload, held by value.
 #[derive(Clone, Copy, Debug, PartialEq, Eq)]
 pub struct Payload {
@@ -89,12 +126,11 @@ impl<'a> Telegram<'a> {
         if bytes.len() < FRAME {
             return Err(Refusal::TooShort);
         }
-        let header = u32::from_be_bytes([0, bytes[0], bytes[1], bytes[2]]);
-        if header >> 20 != PREAMBLE {
+        let header = Header::of(bytes).ok_or(Refusal::TooShort)?;
+        if !has_preamble(bytes[0]) {
             return Err(Refusal::Preamble);
         }
-        let index = header >> 7 & 0x7;
-        let size = size_of_index(index).ok_or(Refusal::SizeIndex)?;
+        let size = header.size()?;
         if bytes.len() != FRAME + size {
             return Err(Refusal::ByteCount);
         }
@@ -103,9 +139,9 @@ impl<'a> Telegram<'a> {
             return Err(Refusal::Checksum);
         }
         Ok(Telegram {
-            address: (header >> 10 & 0x3FF) as u16,
-            index,
-            command: (header & 0x7F) as u8,
+            address: header.address(),
+            index: header.index(),
+            command: header.command(),
             payload: &body[HEADER..],
         })
     }

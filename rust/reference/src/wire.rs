@@ -1,11 +1,12 @@
-//! The C interface on slices. Each function but the checksum and the length of
-//! a record gives back the paper's number plus 256 times the count of bytes
-//! written to the front of the room.
+//! The C interface on slices. Each function but the checksum, the length of a
+//! record and the position of a reader gives back the paper's number plus 256
+//! times the count of bytes written to the front of the room.
 
 #[cfg(test)]
 mod tests;
 
 use crate::answer::Reply;
+use crate::capture::reader;
 use crate::chain::{self, Defaults, Place};
 use crate::command::{Cast, Command, Group, Lamp, Name, Order, Pwm};
 use crate::telegram::{self, Telegram};
@@ -26,6 +27,9 @@ pub struct Side {
     pub deliver: fn(&mut [u8], &[u8], &mut [u8]) -> u32,
     pub sense: fn(&mut [u8], u32, u8, u32) -> u32,
     pub lamp: fn(&[u8], u32, &mut [u8]) -> u32,
+    pub reader_next: fn(&mut [u8], &[u8], &mut usize, &mut [u8]) -> u32,
+    pub reader_end: fn(&mut [u8]) -> u32,
+    pub reader_position: fn(&[u8]) -> u64,
 }
 
 /// The implementation in this package.
@@ -43,6 +47,9 @@ pub static REFERENCE: Side = Side {
     deliver,
     sense,
     lamp,
+    reader_next,
+    reader_end,
+    reader_position,
 };
 
 /// The checksum of all the bytes.
@@ -125,6 +132,24 @@ pub fn sense(record: &mut [u8], place: u32, temperature: u8, faults: u32) -> u32
 #[inline(never)]
 pub fn lamp(record: &[u8], place: u32, room: &mut [u8]) -> u32 {
     packed(chain::read_out(record, Place(place), room))
+}
+
+/// Reads the next telegram of a chunk: 11, then 2, 3 or 5, then 9.
+#[inline(never)]
+pub fn reader_next(state: &mut [u8], chunk: &[u8], at: &mut usize, room: &mut [u8]) -> u32 {
+    packed(reader::next(state, chunk, at, room))
+}
+
+/// Ends the run of a reader: 11, then 1 or 4, or what stopped it before.
+#[inline(never)]
+pub fn reader_end(state: &mut [u8]) -> u32 {
+    packed(reader::end(state))
+}
+
+/// The position of a reader.
+#[inline(never)]
+pub fn reader_position(state: &[u8]) -> u64 {
+    reader::position(state)
 }
 
 /// Writes address, command, payload size and payload.
@@ -213,7 +238,7 @@ fn put(room: &mut [u8], head: &[u8], body: &[u8]) -> Result<usize, Refusal> {
 }
 
 /// Number and count in one.
-fn packed(result: Result<usize, Refusal>) -> u32 {
+pub fn packed(result: Result<usize, Refusal>) -> u32 {
     match result {
         Ok(count) => 256 * count as u32,
         Err(refusal) => refusal.number(),

@@ -3,8 +3,9 @@
 //! it the replay of the program TOOL beside that of the second implementation.
 //! `bench once NAME SIDE [TURNS]` makes some turns of one workload on one side.
 
-use reference::wire::{Side, REFERENCE};
+use reference::wire::Side;
 use sides::callgrind;
+use sides::incremental::INCREMENTAL;
 use sides::library::LIBRARY;
 use sides::random::Random;
 use sides::scripts::ordinary;
@@ -26,6 +27,10 @@ const LAMPS: [u32; 2] = [9, 300];
 /// The status of a replay in which a line was refused, and that of the tool's
 /// program, which the script `osp` gives its status.
 const STATUSES: [i32; 2] = [1, 0];
+
+/// The library, and the second implementation with an incremental reader of
+/// captures.
+static SIDES: [&Side; 2] = [&LIBRARY, &INCREMENTAL];
 
 /// A measure of the library or the tool, and of the second implementation.
 struct Pair(f64, f64);
@@ -74,7 +79,8 @@ impl Table {
         println!("{:21}{columns}", "workload");
     }
 
-    /// Prints a row: nanoseconds, and instructions where they are counted.
+    /// Prints a row: nanoseconds, which it gives too, and instructions where they
+    /// are counted.
     fn row<T>(
         &self,
         name: &str,
@@ -82,13 +88,14 @@ impl Table {
         sides: [&T; 2],
         time: impl Fn(&T) -> Result<f64, String>,
         count: impl Fn(&T) -> Result<f64, String>,
-    ) -> Result<(), String> {
-        let mut columns = Pair::of(turns, sides, time)?.columns();
+    ) -> Result<Pair, String> {
+        let times = Pair::of(turns, sides, time)?;
+        let mut columns = times.columns();
         if self.counted {
             columns += &Pair::of(1, sides, count)?.columns();
         }
         println!("{name:21}{columns}");
-        Ok(())
+        Ok(times)
     }
 }
 
@@ -198,17 +205,36 @@ fn replays(table: &Table, tool: &Path) -> Result<(), String> {
     Ok(())
 }
 
+/// Prints the rows of the workloads. Gives the lines that say how many telegrams
+/// of a capture are read in a second.
+fn calls(table: &Table) -> Result<Vec<String>, String> {
+    let mut rates = Vec::new();
+    for workload in workloads() {
+        if !SIDES.iter().all(|side| workload.is_read(side)) {
+            return Err(format!("{}: the capture is not read whole", workload.name));
+        }
+        let time = |side: &Side| Ok(workload.measure(side));
+        let count = |side: &Side| count(&workload, side);
+        let Pair(library, reference) = table.row(workload.name, TURNS, SIDES, time, count)?;
+        if workload.is_capture() {
+            rates.push(format!(
+                "{}: {:.1} million telegrams a second on one core, the reference {:.1}.",
+                workload.name,
+                1e3 / library,
+                1e3 / reference
+            ));
+        }
+    }
+    Ok(rates)
+}
+
 /// Measures every workload, the two sides in turns, and prints the table.
 fn table(tool: Option<&str>) -> Result<(), String> {
     let table = Table {
         counted: callgrind::is_there(),
     };
     table.head();
-    for workload in workloads() {
-        let time = |side: &Side| Ok(workload.measure(side));
-        let count = |side: &Side| count(&workload, side);
-        table.row(workload.name, TURNS, [&LIBRARY, &REFERENCE], time, count)?;
-    }
+    let rates = calls(&table)?;
     let tool = tool.ok_or("no program was named".to_string());
     let tool = tool.and_then(|tool| match Path::new(tool) {
         path if path.is_file() => Ok(path),
@@ -218,7 +244,8 @@ fn table(tool: Option<&str>) -> Result<(), String> {
         replays(&table, tool)?;
     }
     println!();
-    println!("Medians of {TURNS} turns of each side, for a call.");
+    println!("Medians of {TURNS} turns of each side, for a call; reader-..: for a telegram.");
+    rates.iter().for_each(|rate| println!("{rate}"));
     match table.counted {
         true => println!("Instructions are counted by valgrind's callgrind."),
         false => println!("Instructions are left out: valgrind is not installed."),
@@ -235,7 +262,7 @@ fn table(tool: Option<&str>) -> Result<(), String> {
 
 /// Makes some turns of one workload on one side.
 fn once(name: &str, side: &str, turns: usize) -> Result<(), String> {
-    let side = [&LIBRARY, &REFERENCE]
+    let side = SIDES
         .into_iter()
         .find(|known| known.name == side)
         .ok_or(format!("no such side: {side}"))?;

@@ -3,17 +3,17 @@
 //! the least number of calls to compare.
 
 use reference::line::{Line, Memory};
-use sides::arguments::number;
+use sides::arguments::{comparison, finish};
+use sides::capture_suites::CAPTURE_SUITES;
 use sides::chain_suites::CHAIN_SUITES;
 use sides::check::Checker;
 use sides::library::LIBRARY;
 use sides::lists::try_lists;
 use sides::random::Random;
 use sides::suites::{anything, SUITES};
+use std::fs;
 use std::process::ExitCode;
-use std::{env, fs};
 
-const SEED: u64 = 20_260_101;
 const COUNT: u64 = 2_000_000;
 
 /// Compares every case of the file.
@@ -41,13 +41,17 @@ fn compare_all(path: &str, seed: u64, count: u64) -> Result<(), String> {
     while check.total() < count {
         anything(&mut check, &mut random)?;
     }
-    for suite in CHAIN_SUITES {
+    for suite in CHAIN_SUITES.into_iter().chain(CAPTURE_SUITES) {
         suite(&mut check, &mut random)?;
     }
     for (name, calls) in check.counts() {
-        println!("{name:18} {calls:>9}");
+        println!("{name:19} {calls:>9}");
     }
     println!("{} round trips came back", check.round_trips());
+    println!(
+        "{} captures cut in chunks were read as uncut",
+        check.captures()
+    );
     println!(
         "compared {} calls, {} of them deliveries, seed {seed}: no difference",
         check.total(),
@@ -68,21 +72,12 @@ fn demand_3(seed: u64) -> Result<(), String> {
 
 /// Compares everything and prints the counts.
 fn run() -> Result<(), String> {
-    let path = env::args()
-        .nth(1)
-        .ok_or("usage: compare CASES [SEED [COUNT]]")?;
-    let (seed, count) = (number(2, SEED)?, number(3, COUNT)?);
+    let (path, seed, count) = comparison("usage: compare CASES [SEED [COUNT]]", COUNT)?;
     println!("{} against reference, seed {seed}", LIBRARY.name);
     compare_all(&path, seed, count)?;
     demand_3(seed)
 }
 
 fn main() -> ExitCode {
-    match run() {
-        Ok(()) => ExitCode::SUCCESS,
-        Err(message) => {
-            println!("{message}");
-            ExitCode::FAILURE
-        }
-    }
+    finish(run())
 }

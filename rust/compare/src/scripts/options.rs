@@ -11,7 +11,7 @@ pub(super) const COUNTS: [u32; 6] = [1, 2, 9, 31, 300, 1007];
 const REFUSED_COUNTS: [(&str, u32); 3] = [("0", 0), ("1008", 1008), ("99999999999", u32::MAX)];
 
 /// Any options, as numbers and as they are written.
-pub(super) fn options(random: &mut Random) -> (Options, Vec<String>) {
+pub fn options(random: &mut Random) -> (Options, Vec<String>) {
     let (count, lamps) = match random.below(25) {
         0 => {
             let (text, lamps) = random.pick(&REFUSED_COUNTS);
@@ -30,6 +30,7 @@ pub(super) fn options(random: &mut Random) -> (Options, Vec<String>) {
         },
         quiet: random.below(4) == 0,
         json: random.below(3) == 0,
+        raw: false,
     };
     let mut arguments = vec!["--lamps".to_string(), count];
     let lower = random.below(2) == 0;

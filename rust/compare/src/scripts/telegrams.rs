@@ -35,7 +35,7 @@ pub(super) fn long_telegram(random: &mut Random) -> Vec<u8> {
 
 /// A telegram that is refused with a number. With 12 only where the chain has
 /// more than one lamp, else it is done.
-pub(super) fn refused(number: u32, random: &mut Random) -> Vec<u8> {
+pub(crate) fn refused(number: u32, random: &mut Random) -> Vec<u8> {
     let mut bytes = good_command(random);
     match number {
         1 => bytes.truncate(random.between(1, 3) as usize),

@@ -37,7 +37,7 @@ impl Writer {
         Writer {
             options,
             arguments,
-            record: record(&options),
+            record: made(&options),
             text: Vec::new(),
             hand: Hand {
                 line_end: random.pick(&[&b"\n"[..], b"\n", b"\r\n"]),
@@ -202,8 +202,8 @@ impl Writer {
     }
 }
 
-/// The chain of a script, or any where it is refused.
-fn record(options: &Options) -> Vec<u8> {
+/// The chain that options make, or any where it is refused.
+pub(crate) fn made(options: &Options) -> Vec<u8> {
     let count = match options.lamps as usize {
         count @ 1..=MOST => count,
         _ => 1,

@@ -141,3 +141,52 @@ fn bad_chain_lines_are_refused() {
     assert!(Line::parse("m 00004001 00000001 00 00 00 00").is_err());
     assert!(Line::parse("t 21").is_err());
 }
+
+#[test]
+fn reader_lines_share_the_memory() {
+    let fresh = format!("o {} 5A", "00".repeat(21));
+    let lines = [
+        &fresh,
+        "g 03 00000001 B0 A0 00 00 22",
+        "g 04 00000001 B0 A0 00 00 22 A0",
+        "g 04 00000005 B0 A0 00 00 22 A0",
+        "q",
+        "e",
+        "e",
+        "o 03",
+        "q",
+    ];
+    let record = |bytes: &[u8]| format!("  record {:02X}\n", checksum(bytes));
+    let mut bytes = vec![0; 21];
+    bytes.push(0x5A);
+    let printed = reports(&lines);
+    assert_eq!(printed[0], record(&bytes));
+    assert_eq!(
+        printed[1],
+        "  9\n  at 00000001\n".to_string() + &record(&bytes)
+    );
+    bytes[9] = 4;
+    let given = "  0 4 A0 00 00 22\n  at 00000005\n".to_string();
+    assert_eq!(printed[2], given + &record(&bytes));
+    (bytes[1], bytes[10]) = (1, 0xA0);
+    assert_eq!(
+        printed[3],
+        "  0 0\n  at 00000006\n".to_string() + &record(&bytes)
+    );
+    assert_eq!(printed[4], "  0000000000000004\n");
+    (bytes[0], bytes[1], bytes[10]) = (2, 1, 0);
+    assert_eq!(printed[5], "  1\n".to_string() + &record(&bytes));
+    assert_eq!(printed[6], printed[5]);
+    assert_eq!(printed[7], record(&[3]));
+    assert_eq!(printed[8], "  0000000000000000\n");
+}
+
+#[test]
+fn bad_reader_lines_are_refused() {
+    for line in ["o", "o 00", "g 20 FFFFFFFF", "g 00 00000000 A0", "e", "q"] {
+        assert!(Line::parse(line).is_ok(), "{line}");
+    }
+    for line in ["g", "g 20", "g 20 000000", "g 21 00000000", "e 00", "q 00"] {
+        assert!(Line::parse(line).is_err(), "{line}");
+    }
+}

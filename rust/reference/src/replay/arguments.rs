@@ -11,7 +11,8 @@ const DEFAULTS: Defaults = Defaults {
     thresholds: [0x03, 0xE6, 0xF0],
 };
 
-/// What is to be done, and the script's file; `-` is standard input.
+/// What is to be done, and the file of the script or the capture; `-` is standard
+/// input.
 #[derive(Debug, PartialEq, Eq)]
 pub struct Call {
     pub options: Options,
@@ -24,7 +25,7 @@ impl Call {
     pub fn of(mut arguments: impl Iterator<Item = OsString>) -> Result<Call, String> {
         let (mut lamps, mut script) = (None, None);
         let mut defaults = DEFAULTS;
-        let (mut quiet, mut json) = (false, false);
+        let (mut quiet, mut json, mut raw) = (false, false, false);
         while let Some(argument) = arguments.next() {
             match argument.as_encoded_bytes() {
                 b"--lamps" => lamps = Some(value(&mut arguments, number, "a decimal number")?),
@@ -36,6 +37,7 @@ impl Call {
                 }
                 b"--quiet" => quiet = true,
                 b"--json" => json = true,
+                b"--raw" => raw = true,
                 [b'-', _, ..] => return Err(format!("no such option: {argument:?}")),
                 _ if script.is_none() => script = Some(argument),
                 _ => return Err(format!("more than one script: {argument:?}")),
@@ -47,6 +49,7 @@ impl Call {
                 defaults,
                 quiet,
                 json,
+                raw,
             },
             script: script.ok_or("the script is missing")?,
         })
@@ -76,20 +79,24 @@ mod tests {
         Call::of(line.split_whitespace().map(OsString::from))
     }
 
+    fn switches(options: &Options) -> [bool; 3] {
+        [options.quiet, options.json, options.raw]
+    }
+
     #[test]
     fn options_stand_in_any_order() {
         let Call { options, script } = call("--lamps 9 script").unwrap();
         assert_eq!((options.lamps, options.defaults), (9, DEFAULTS));
-        assert_eq!((options.quiet, options.json), (false, false));
+        assert_eq!(switches(&options), [false, false, false]);
         assert_eq!(script, "script");
-        let line = "- --json --thresholds 01 aB Ff --setup 2c --quiet --lamps 99999999999";
+        let line = "- --json --thresholds 01 aB Ff --setup 2c --raw --quiet --lamps 99999999999";
         let Call { options, script } = call(line).unwrap();
         let defaults = Defaults {
             setup: 0x2C,
             thresholds: [0x01, 0xAB, 0xFF],
         };
         assert_eq!((options.lamps, options.defaults), (u32::MAX, defaults));
-        assert_eq!((options.quiet, options.json), (true, true));
+        assert_eq!(switches(&options), [true, true, true]);
         assert_eq!(script, "-");
     }
 

@@ -1,20 +1,37 @@
 //! What is printed as JSON.
 
 use crate::answer::Reply;
-use crate::command::{Cast, Pwm};
+use crate::command::{Cast, Order, Pwm};
 use crate::replay::page::Page;
 use crate::replay::script::{Report, Sent};
-use crate::replay::{words, Exchange, Fields};
+use crate::replay::{words, Exchange, Fields, Mark, Stop};
 use crate::Refusal;
 
 /// A telegram and its answer.
-pub fn telegram(page: &mut Page, line: u64, sent: &Sent, outcome: &Result<Exchange, Refusal>) {
-    number(page, "{\"line\":", line);
+pub(super) fn telegram(
+    page: &mut Page,
+    mark: Mark,
+    sent: &Sent,
+    outcome: &Result<Exchange, Refusal>,
+) {
+    stands(page, mark);
     bytes(page, ",\"tx\":\"", sent.bytes());
     let Exchange { order, answer } = match outcome {
         Err(refusal) => return refused(page, *refusal),
         Ok(exchange) => exchange,
     };
+    command(page, order);
+    match answer {
+        None => page.text(",\"rx\":null}\n"),
+        Some((answer, reply)) => {
+            bytes(page, ",\"rx\":\"", answer.bytes());
+            answered(page, reply);
+        }
+    }
+}
+
+/// A command that is done or accepted, to whom it goes and what it carries.
+pub fn command(page: &mut Page, order: &Order) {
     let command = order.command();
     name(
         page,
@@ -28,23 +45,18 @@ pub fn telegram(page: &mut Page, line: u64, sent: &Sent, outcome: &Result<Exchan
     };
     number(page, cast, value);
     bytes(page, ",\"payload\":\"", command.payload().bytes());
-    match answer {
-        None => page.text(",\"rx\":null}\n"),
-        Some((answer, reply)) => answered(page, answer, reply),
-    }
 }
 
-/// An answer, which ends the line.
-fn answered(page: &mut Page, answer: &Sent, reply: &Reply) {
-    bytes(page, ",\"rx\":\"", answer.bytes());
+/// Whose answer it is and what it carries, which ends the line.
+pub fn answered(page: &mut Page, reply: &Reply) {
     number(page, ",\"address\":", reply.address());
     bytes(page, ",\"answer\":\"", reply.answer().payload().bytes());
     page.text("}\n");
 }
 
 /// A sensor report.
-pub fn sensor(page: &mut Page, line: u64, report: &Report, outcome: Result<(), Refusal>) {
-    number(page, "{\"line\":", line);
+pub(super) fn sensor(page: &mut Page, mark: Mark, report: &Report, outcome: Result<(), Refusal>) {
+    stands(page, mark);
     number(page, ",\"place\":", report.place.0);
     number(page, ",\"temperature\":", report.temperature);
     number(page, ",\"faults\":", report.faults);
@@ -54,8 +66,14 @@ pub fn sensor(page: &mut Page, line: u64, report: &Report, outcome: Result<(), R
     }
 }
 
+/// That the capture stopped.
+pub(super) fn stopped(page: &mut Page, stop: Stop) {
+    number(page, "{\"stopped\":", stop.position);
+    refused(page, stop.refusal);
+}
+
 /// A lamp.
-pub fn lamp(page: &mut Page, place: u16, lamp: &Fields) {
+pub(super) fn lamp(page: &mut Page, place: u16, lamp: &Fields) {
     number(page, "{\"place\":", place);
     number(page, ",\"address\":", lamp.address);
     name(
@@ -84,28 +102,40 @@ pub fn lamp(page: &mut Page, place: u16, lamp: &Fields) {
     page.text("}\n");
 }
 
+/// Where it stands, which starts the line.
+fn stands(page: &mut Page, mark: Mark) {
+    page.text("{\"");
+    page.text(mark.name);
+    number(page, "\":", mark.number);
+}
+
 /// A refusal, which ends the line.
-fn refused(page: &mut Page, refusal: Refusal) {
-    number(page, ",\"number\":", refusal.number());
-    name(page, ",\"refusal\":\"", words::refusal(refusal));
+fn refused(page: &mut Page, reason: Refusal) {
+    refusal(page, reason);
     page.text("}\n");
 }
 
+/// A refusal with its number and its words.
+pub fn refusal(page: &mut Page, refusal: Refusal) {
+    number(page, ",\"number\":", refusal.number());
+    name(page, ",\"refusal\":\"", words::refusal(refusal));
+}
+
 /// A number behind its key.
-fn number(page: &mut Page, key: &str, number: impl Into<u64>) {
+pub fn number(page: &mut Page, key: &str, number: impl Into<u64>) {
     page.text(key);
     page.decimal(number);
 }
 
 /// A name behind its key and a quotation mark.
-fn name(page: &mut Page, key: &str, name: &str) {
+pub fn name(page: &mut Page, key: &str, name: &str) {
     page.text(key);
     page.text(name);
     page.text("\"");
 }
 
 /// Bytes in hex behind their key and a quotation mark.
-fn bytes(page: &mut Page, key: &str, bytes: &[u8]) {
+pub fn bytes(page: &mut Page, key: &str, bytes: &[u8]) {
     page.text(key);
     page.hex(bytes);
     page.text("\"");

@@ -1,5 +1,6 @@
 //! Output, gathered before it is written.
 
+use std::fmt::Arguments;
 use std::io::{self, Write};
 
 /// What the page holds before it is written.
@@ -61,6 +62,11 @@ impl Page {
     #[inline]
     pub fn text(&mut self, text: &str) {
         self.raw(text.as_bytes());
+    }
+
+    /// Formatted text.
+    pub fn show(&mut self, text: Arguments) {
+        self.text(&text.to_string());
     }
 
     /// Text, and spaces behind it up to a width.

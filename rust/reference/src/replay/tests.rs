@@ -1,5 +1,7 @@
 //! The page's examples, and where its sentences end.
 
+mod raw;
+
 use super::*;
 use crate::command::Name;
 
@@ -22,6 +24,7 @@ fn text(lamps: u32) -> Options {
         defaults: DEFAULTS,
         quiet: false,
         json: false,
+        raw: false,
     }
 }
 

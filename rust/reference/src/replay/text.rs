@@ -4,7 +4,7 @@ use crate::answer::{Answer, Health, Reply};
 use crate::command::{Cast, Channel, Command, Order, Pwm};
 use crate::replay::page::{hex, Page};
 use crate::replay::script::{Report, Sent};
-use crate::replay::{words, Exchange, Fields};
+use crate::replay::{words, Exchange, Failure, Fields, Mark, Stop};
 use crate::telegram::LONGEST;
 use crate::Refusal;
 
@@ -17,10 +17,15 @@ const HEAD: &str = "place addr state         com   temp thresholds setup \
                     red         green       blue        flags               groups\n";
 
 /// A telegram, and its answer below it.
-pub fn telegram(page: &mut Page, line: u64, sent: &Sent, outcome: &Result<Exchange, Refusal>) {
+pub(super) fn telegram(
+    page: &mut Page,
+    mark: Mark,
+    sent: &Sent,
+    outcome: &Result<Exchange, Refusal>,
+) {
     bytes(page, b"tx ", sent);
     match outcome {
-        Err(refusal) => refused(page, line, *refusal),
+        Err(refusal) => refused(page, mark, *refusal),
         Ok(Exchange { order, answer }) => {
             command(page, order);
             match answer {
@@ -37,7 +42,7 @@ pub fn telegram(page: &mut Page, line: u64, sent: &Sent, outcome: &Result<Exchan
 }
 
 /// A sensor report.
-pub fn sensor(page: &mut Page, line: u64, report: &Report, outcome: Result<(), Refusal>) {
+pub(super) fn sensor(page: &mut Page, mark: Mark, report: &Report, outcome: Result<(), Refusal>) {
     let words_at = page.len() + COLUMN;
     page.text("sensor ");
     page.decimal(report.place.0);
@@ -47,7 +52,7 @@ pub fn sensor(page: &mut Page, line: u64, report: &Report, outcome: Result<(), R
     page.decimal(report.faults);
     page.pad(words_at);
     if let Err(refusal) = outcome {
-        return refused(page, line, refusal);
+        return refused(page, mark, refusal);
     }
     page.text("place ");
     page.decimal(report.place.0);
@@ -58,8 +63,13 @@ pub fn sensor(page: &mut Page, line: u64, report: &Report, outcome: Result<(), R
     page.text("\n");
 }
 
+/// That the capture stopped.
+pub(super) fn stopped(page: &mut Page, stop: Stop) {
+    page.show(format_args!("{}\n", Failure::Capture(stop)));
+}
+
 /// An empty line, unless the lamps stand alone, and what stands above them.
-pub fn head(page: &mut Page, alone: bool) {
+pub(super) fn head(page: &mut Page, alone: bool) {
     if !alone {
         page.text("\n");
     }
@@ -67,7 +77,7 @@ pub fn head(page: &mut Page, alone: bool) {
 }
 
 /// The row of a lamp.
-pub fn lamp(page: &mut Page, place: u16, lamp: &Fields) {
+pub(super) fn lamp(page: &mut Page, place: u16, lamp: &Fields) {
     page.right(place);
     page.text(" ");
     page.address(lamp.address);
@@ -108,10 +118,11 @@ fn bytes(page: &mut Page, label: &[u8; 3], sent: &Sent) {
     page.raw(&column);
 }
 
-/// The line's number and the refusal in words.
-fn refused(page: &mut Page, line: u64, refusal: Refusal) {
-    page.text("line ");
-    page.decimal(line);
+/// The number of the line or the position, and the refusal in words.
+fn refused(page: &mut Page, mark: Mark, refusal: Refusal) {
+    page.text(mark.name);
+    page.text(" ");
+    page.decimal(mark.number);
     page.text(": refused ");
     page.decimal(refusal.number());
     page.text(": ");
@@ -120,7 +131,7 @@ fn refused(page: &mut Page, line: u64, refusal: Refusal) {
 }
 
 /// A command in words.
-fn command(page: &mut Page, order: &Order) {
+pub fn command(page: &mut Page, order: &Order) {
     let name = order.command().name();
     page.text(words::command(name));
     match order.cast() {
@@ -149,7 +160,7 @@ fn command(page: &mut Page, order: &Order) {
 }
 
 /// An answer in words.
-fn answered(page: &mut Page, reply: &Reply) {
+pub fn answered(page: &mut Page, reply: &Reply) {
     let answer = reply.answer();
     page.address(reply.address());
     page.text(" answers ");

@@ -62,6 +62,11 @@ pub fn command(name: Name) -> &'static str {
     }
 }
 
+/// A refusal with its number and its words.
+pub fn refused(reason: Refusal) -> String {
+    format!("refused {}: {}", reason.number(), refusal(reason))
+}
+
 /// The words of a refusal.
 pub fn refusal(refusal: Refusal) -> &'static str {
     match refusal {

@@ -1,0 +1,57 @@
+//! A listing as JSON.
+
+use crate::dump::fault::Fault;
+use crate::dump::{Last, Meaning};
+use crate::replay::json::{answered, bytes, command, name, number, refusal};
+use crate::replay::page::Page;
+use crate::replay::words;
+
+/// A telegram: its position, its bytes and what they say.
+pub fn telegram(page: &mut Page, position: u64, telegram: &[u8], meaning: &Meaning) {
+    heading(page, position, telegram);
+    match meaning {
+        Meaning::Command(order) => command(page, order),
+        Meaning::Answer(reply) => {
+            let answers = words::command(reply.answer().name());
+            name(page, ",\"number\":0,\"answers\":\"", answers);
+            return answered(page, reply);
+        }
+        Meaning::Neither(as_command, as_answer) => {
+            number(page, ",\"number\":0,\"as_command\":", as_command.number());
+            number(page, ",\"as_answer\":", as_answer.number());
+        }
+    }
+    page.text("}\n");
+}
+
+/// A refused telegram.
+pub fn fault(page: &mut Page, position: u64, fault: &Fault) {
+    heading(page, position, fault.bytes);
+    refusal(page, fault.refusal);
+    name(page, ",\"expected\":\"", &fault.expected());
+    page.text("}\n");
+}
+
+/// The last line: where the reading ended or stopped, and what was read.
+pub fn last(page: &mut Page, last: &Last) {
+    let key = match last.refusal {
+        None => "{\"ended\":",
+        Some(_) => "{\"stopped\":",
+    };
+    number(page, key, last.position);
+    number(page, ",\"telegrams\":", last.tally.telegrams());
+    if !last.quiet {
+        number(page, ",\"commands\":", last.tally.commands);
+        number(page, ",\"answers\":", last.tally.answers);
+        number(page, ",\"neither\":", last.tally.neither);
+    }
+    let refused = last.refusal.map_or(0, |refusal| refusal.number());
+    number(page, ",\"number\":", refused);
+    page.text("}\n");
+}
+
+/// The position and the bytes, which start the line.
+fn heading(page: &mut Page, position: u64, telegram: &[u8]) {
+    number(page, "{\"position\":", position);
+    bytes(page, ",\"bytes\":\"", telegram);
+}
