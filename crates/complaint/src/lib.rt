@@ -11,9 +11,11 @@ pub const REPLAY: u8 = 3;
 
 pub const BOARD: u8 = 4;
 
-pub const HELP: u8 = 5;
+pub const DUMP: u8 = 5;
 
-pub const ARGUMENTS: u8 = 6;
+pub const HELP: u8 = 6;
+
+pub const ARGUMENTS: u8 = 7;
 
 // What can be wrong: the lines of `put_wrong`.
 pub const NOTHING: u8 = 0;
@@ -58,6 +60,12 @@ pub const FILE_EXPECTED: u8 = 19;
 
 pub const BOARD_OPTION_EXPECTED: u8 = 20;
 
+pub const DUMP_OPTION_EXPECTED: u8 = 21;
+
+pub const TELEGRAM_REFUSED: u8 = 22;
+
+pub const STOPPED: u8 = 23;
+
 // A word that somebody gave, as it can stand in a line.
 struct Plain {
     text: [u8; 60],
@@ -101,6 +109,7 @@ build
 info
 replay
 board
+dump
 help
 arguments
 ",
@@ -122,8 +131,8 @@ fn put_start(out: &mut [u8], subcommand: u8) -> usize {
     )
 }
 
-// Appends what is wrong, with a number and a word that its form may show.
-fn put_wrong(out: &mut [u8], at: usize, what: u8, n: u64, word: &[u8]) -> usize {
+// Appends what is wrong, with a number, a refusal and a word that its form may show.
+fn put_wrong(out: &mut [u8], at: usize, what: u8, n: u64, refusal: u64, word: &[u8]) -> usize {
     words::put_form(
         out,
         at,
@@ -145,24 +154,27 @@ a line of the script was refused; osp replay says which
 --lamps expects a number; see osp help %t
 --setup expects a byte of two hex digits; see osp help %t
 --thresholds expects three bytes of two hex digits; see osp help %t
-expected --lamps, --setup, --thresholds, --quiet, --json or a file; see osp help %t
+expected --lamps, --setup, --thresholds, --raw, --quiet, --json or a file; see osp help %t
 expected one file; see osp help %t
 --lamps N is missing; see osp help %t
 expected a file, or - for standard input; see osp help %t
-expected --lamps, --setup, --thresholds or a file; see osp help %t
+expected --lamps, --setup, --thresholds, --raw or a file; see osp help %t
+expected --json, --quiet or a file; see osp help %t
+a telegram of the capture was refused; osp replay --raw says which
+capture stopped at position %d: refused %d: %r
 ",
             what as usize,
         ),
-        [n, n, 0, 0, 0, 0, 0, 0],
+        [n, refusal, refusal, 0, 0, 0, 0, 0],
         word,
     )
 }
 
 // Says what is wrong.
-fn say_told(err: i32, subcommand: u8, what: u8, n: u64, word: &[u8]) -> u8 {
+fn say_told(err: i32, subcommand: u8, what: u8, n: u64, refusal: u64, word: &[u8]) -> u8 {
     let mut line = [0u8; 256];
     let a = put_start(&mut line, subcommand);
-    let b = put_wrong(&mut line, a, what, n, word);
+    let b = put_wrong(&mut line, a, what, n, refusal, word);
     let c = text::put_byte(&mut line, b, b'\n');
     text::flush(err, &line, c);
     2
@@ -170,31 +182,52 @@ fn say_told(err: i32, subcommand: u8, what: u8, n: u64, word: &[u8]) -> u8 {
 
 // Says what was expected.
 pub fn say(err: i32, subcommand: u8, what: u8) -> u8 {
-    say_told(err, subcommand, what, 0, b"")
+    say_told(err, subcommand, what, 0, 0, b"")
 }
 
 // Says what is wrong with a word.
 pub fn say_word(err: i32, subcommand: u8, what: u8, word: &[u8]) -> u8 {
     let plain = plain_word(word);
     let letters = plain.text;
-    say_told(err, subcommand, what, 0, text::first(&letters, plain.size))
+    say_told(
+        err,
+        subcommand,
+        what,
+        0,
+        0,
+        text::first(&letters, plain.size),
+    )
 }
 
 // Says what was expected of the options of a subcommand, which has a help of its own.
 pub fn say_use(err: i32, subcommand: u8, what: u8) -> u8 {
     let name = named(subcommand);
     let letters = name.text;
-    say_told(err, subcommand, what, 0, text::first(&letters, name.size))
+    say_told(
+        err,
+        subcommand,
+        what,
+        0,
+        0,
+        text::first(&letters, name.size),
+    )
 }
 
 // Says that a line of a script is none.
 pub fn say_malformed(err: i32, subcommand: u8, line: u64) -> u8 {
-    say_told(err, subcommand, MALFORMED, line, b"")
+    say_told(err, subcommand, MALFORMED, line, 0, b"")
 }
 
 // Says a refusal.
 pub fn say_refusal(err: i32, subcommand: u8, number: u8) -> u8 {
-    say_told(err, subcommand, REFUSED, number as u64, b"");
+    let n = number as u64;
+    say_told(err, subcommand, REFUSED, n, n, b"");
+    1
+}
+
+// Says where a capture stopped, and by which refusal.
+pub fn say_stopped(err: i32, subcommand: u8, position: u64, number: u8) -> u8 {
+    say_told(err, subcommand, STOPPED, position, number as u64, b"");
     1
 }
 

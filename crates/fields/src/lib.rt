@@ -1,6 +1,6 @@
 // osp fields: document 002's table of a telegram. docs/TOOL.md has the form.
+mod below;
 mod grid;
-mod verdict;
 
 // Of more bytes than the table has columns, a line that counts them.
 fn put_page(out: &mut [u8], book: &[u8], s: &[u8], n: usize) -> usize {
@@ -24,8 +24,8 @@ fn show(bytes: [u8; 16], n: usize, err: i32) -> u8 {
     let s = text::first(&bytes, n);
     let v = verdict::judge(s);
     let a = put_page(&mut page, &book, s, n);
-    let k = verdict::put_verdict(&mut page, a, &book, v, bytes, n);
-    complaint::finish(err, complaint::FIELDS, &page, k, verdict::is_refused(v))
+    let k = below::put_verdict(&mut page, a, &book, v, bytes, n);
+    complaint::finish(err, complaint::FIELDS, &page, k, below::is_refused(v))
 }
 
 // The subcommand, on the words behind its name. Answers its status.

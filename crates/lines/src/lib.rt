@@ -1,8 +1,13 @@
-// A line of a script: what it says, and what is printed of it once it was done, as text and as JSON. docs/TOOL.md has the forms.
+// A line of a script, or a telegram of a raw capture in place of it: what it says, and what is printed of it once it was done, as text and
+// as JSON. docs/TOOL.md has the forms.
 mod json;
 mod plain;
 
+use frame::Cut;
 use text::reading::Number;
+use words::put_told;
+use words::texts;
+use words::values_told;
 
 // What is printed of each line.
 pub enum Style {
@@ -11,20 +16,29 @@ pub enum Style {
     Silent,
 }
 
-// What a line is. One that has no line feed yet is open.
+// What a text holds: lines that end with a line feed, the last line, which need not, or whole telegrams of a capture.
+pub enum Holds {
+    Lines,
+    LastLine,
+    Telegrams,
+}
+
+// What a line is. One that has no line feed yet is open; a telegram of a capture stands in no line.
 pub enum Kind {
     Open,
     Blank,
     Telegram,
+    Captured,
     Sensor,
     Malformed,
 }
 
 // A line: the first bytes of its telegram and how many it has, at most 16 of them here; or its sensor report. `next` is where the line
-// behind it begins in a text.
+// behind it begins in a text, `step` how far that one is: a line, or the bytes of a telegram of a capture.
 pub struct Line {
     pub kind: Kind,
     pub next: usize,
+    pub step: u64,
     pub bytes: [u8; 16],
     pub count: usize,
     pub place: u32,
@@ -44,6 +58,7 @@ fn without_bytes(kind: Kind, next: usize) -> Line {
     Line {
         kind,
         next,
+        step: 1,
         bytes: [0; 16],
         count: 0,
         place: 0,
@@ -68,6 +83,7 @@ fn with_bytes(bytes: [u8; 16], count: usize, size: usize, next: usize) -> Line {
     Line {
         kind: kind_of(count, size),
         next,
+        step: 1,
         bytes,
         count,
         place: 0,
@@ -80,6 +96,7 @@ fn with_sensor(place: u32, temperature: u8, faults: u32) -> Line {
     Line {
         kind: Kind::Sensor,
         next: 0,
+        step: 1,
         bytes: [0; 16],
         count: 0,
         place,
@@ -142,19 +159,32 @@ fn with_next(line: Line, next: usize) -> Line {
     l
 }
 
-// The line at an index of a text: hex up to its line feed at once, anything else as a line of any kind. The last line of a file needs no
-// line feed.
-pub fn line_at(s: &[u8], at: usize, last: bool) -> Line {
+// The telegram at an index of whole telegrams.
+fn captured_at(s: &[u8], at: usize) -> Line {
     let mut bytes = [0u8; 16];
-    let h = text::reading::hex_at(s, at, &mut bytes);
+    let rest = text::from(s, at);
+    let cut = frame::cut_first(rest);
+    let Cut::Whole(count) = cut else {
+        return without_bytes(Kind::Open, at);
+    };
+    text::put(&mut bytes, 0, text::first(rest, count));
+    Line {
+        kind: Kind::Captured,
+        next: std::num::wrapping_add_usize(at, count),
+        step: count as u64,
+        bytes,
+        count,
+        place: 0,
+        temperature: 0,
+        faults: 0,
+    }
+}
+
+// The line of any kind at an index. The last line of a file needs no line feed.
+fn any_at(s: &[u8], at: usize, last: bool) -> Line {
     let n = s.len();
     if n < at {
         return without_bytes(Kind::Open, at);
-    }
-    if text::byte_at(s, h.at) == b'\n' {
-        let size = std::num::wrapping_sub_usize(h.at, at);
-        let next = std::num::wrapping_add_usize(h.at, 1);
-        return with_bytes(bytes, h.count, size, next);
     }
     let end = bytes::scan::find(s, at, n, b'\n');
     if bits::and(end == n, !last) {
@@ -163,19 +193,79 @@ pub fn line_at(s: &[u8], at: usize, last: bool) -> Line {
     with_next(line_of(&s[at..end]), std::num::wrapping_add_usize(end, 1))
 }
 
-// Appends what is printed of a line that was done: its number in the script, what it says, and what the chain gave. `book` is `words::book`.
+fn is_capture(holds: Holds) -> bool {
+    match holds {
+        Holds::Telegrams => true,
+        _ => false,
+    }
+}
+
+fn is_last(holds: Holds) -> bool {
+    match holds {
+        Holds::LastLine => true,
+        _ => false,
+    }
+}
+
+// The line at an index of a text: hex up to its line feed at once, anything else by what the text holds. (A telegram's first byte is no hex
+// digit.)
+pub fn line_at(s: &[u8], at: usize, holds: Holds) -> Line {
+    let mut bytes = [0u8; 16];
+    let h = text::reading::hex_at(s, at, &mut bytes);
+    if text::byte_at(s, h.at) == b'\n' {
+        let size = std::num::wrapping_sub_usize(h.at, at);
+        let next = std::num::wrapping_add_usize(h.at, 1);
+        return with_bytes(bytes, h.count, size, next);
+    }
+    if is_capture(holds) {
+        return captured_at(s, at);
+    }
+    any_at(s, at, is_last(holds))
+}
+
+// Appends what is printed of a line that was done: where it stands, what it says, and what the chain gave. `before` is how many lines of
+// the script, or bytes of the capture, stand before it; `book` is `words::book`.
 pub fn put_line(
     out: &mut [u8],
     at: usize,
     style: Style,
-    number: u64,
+    before: u64,
     line: Line,
     given: Given,
     book: &[u8],
 ) -> usize {
     match style {
-        Style::Text => plain::put_line(out, at, book, number, line, given),
-        Style::Json => json::put_line(out, at, book, number, line, given),
+        Style::Text => plain::put_line(out, at, book, before, line, given),
+        Style::Json => json::put_line(out, at, book, before, line, given),
+        Style::Silent => at,
+    }
+}
+
+// Appends where a capture stopped, and by which refusal.
+pub fn put_stopped(
+    out: &mut [u8],
+    at: usize,
+    style: Style,
+    position: u64,
+    refusal: u8,
+    book: &[u8],
+) -> usize {
+    let n = refusal as u64;
+    match style {
+        Style::Text => put_told(
+            out,
+            at,
+            book,
+            values_told(texts::STOPPED, position, n, n, 0),
+            b"",
+        ),
+        Style::Json => put_told(
+            out,
+            at,
+            book,
+            values_told(texts::JSON_STOPPED, position, n, n, 0),
+            b"",
+        ),
         Style::Silent => at,
     }
 }

@@ -29,30 +29,34 @@ fn put_received(out: &mut [u8], at: usize, book: &[u8], answer: [u8; 16], size: 
     text::put_byte(out, b, b'\n')
 }
 
-// Appends the line's number and its refusal.
-fn put_refused(out: &mut [u8], at: usize, book: &[u8], number: u64, refusal: u8) -> usize {
+// The refusal behind the line's number, or behind the position in a capture.
+fn refused_told(kind: Kind, before: u64, refusal: u8) -> Told {
     let n = refusal as u64;
-    put_told(
-        out,
-        at,
-        book,
-        values_told(texts::LINE_REFUSED, number, n, n, 0),
-        b"",
-    )
+    match kind {
+        Kind::Captured => values_told(texts::POSITION_REFUSED, before, n, n, 0),
+        _ => values_told(
+            texts::LINE_REFUSED,
+            std::num::wrapping_add_u64(before, 1),
+            n,
+            n,
+            0,
+        ),
+    }
 }
 
 fn put_telegram(
     out: &mut [u8],
     at: usize,
     book: &[u8],
-    number: u64,
+    before: u64,
     line: Line,
     given: Given,
 ) -> usize {
     let bytes = line.bytes;
     let a = put_sent(out, at, book, text::first(&bytes, line.count));
     if given.number != 0 {
-        return put_refused(out, a, book, number, given.number);
+        let kind = line.kind;
+        return put_told(out, a, book, refused_told(kind, before, given.number), b"");
     }
     let answer = given.answer;
     let b = words::put_command(out, a, book, words::message_of(bytes, line.count));
@@ -79,7 +83,7 @@ fn put_sensor(
     out: &mut [u8],
     at: usize,
     book: &[u8],
-    number: u64,
+    before: u64,
     line: Line,
     refusal: u8,
 ) -> usize {
@@ -92,7 +96,13 @@ fn put_sensor(
     );
     let a = put_told(out, at, book, said, b"");
     if refusal != 0 {
-        return put_refused(out, a, book, number, refusal);
+        return put_told(
+            out,
+            a,
+            book,
+            refused_told(Kind::Sensor, before, refusal),
+            b"",
+        );
     }
     put_told(out, a, book, sensed_told(line), b"")
 }
@@ -101,13 +111,13 @@ pub fn put_line(
     out: &mut [u8],
     at: usize,
     book: &[u8],
-    number: u64,
+    before: u64,
     line: Line,
     given: Given,
 ) -> usize {
     let kind = line.kind;
     match kind {
-        Kind::Sensor => put_sensor(out, at, book, number, line, given.number),
-        _ => put_telegram(out, at, book, number, line, given),
+        Kind::Sensor => put_sensor(out, at, book, before, line, given.number),
+        _ => put_telegram(out, at, book, before, line, given),
     }
 }

@@ -1,4 +1,4 @@
-// The options of replay and board: the words behind the subcommand's name, with a byte 0 behind each.
+// The options of replay, board and dump: the words behind the subcommand's name, with a byte 0 behind each.
 use text::reading::Number;
 
 // What the options said. `next` is what the next word is: 0 an option or the file, 1 lamps, 2 setup, 3 to 5 a threshold. `wrong` is the
@@ -10,6 +10,7 @@ pub struct Options {
     pub cycle: u8,
     pub low: u8,
     pub high: u8,
+    pub raw: bool,
     pub quiet: bool,
     pub json: bool,
     pub from: usize,
@@ -27,6 +28,7 @@ fn no_words() -> Options {
         cycle: 0x03,
         low: 0xE6,
         high: 0xF0,
+        raw: false,
         quiet: false,
         json: false,
         from: 0,
@@ -49,23 +51,53 @@ fn with_next(o: Options, next: u8) -> Options {
     p
 }
 
+// Which option a word is, of those that a subcommand takes; 6 where it is none. Board takes the first four, dump the last two.
+fn option_of(subcommand: u8, word: &[u8]) -> usize {
+    let k = text::line_in(
+        b"--lamps\n--setup\n--thresholds\n--raw\n--quiet\n--json\n",
+        word,
+    );
+    if bits::and(subcommand == complaint::BOARD, 3 < k) {
+        return 6;
+    }
+    if bits::and(subcommand == complaint::DUMP, k < 4) {
+        return 6;
+    }
+    k
+}
+
+// The complaint about an option that a subcommand does not take.
+fn options_expected(subcommand: u8) -> u8 {
+    if subcommand == complaint::BOARD {
+        return complaint::BOARD_OPTION_EXPECTED;
+    }
+    if subcommand == complaint::DUMP {
+        return complaint::DUMP_OPTION_EXPECTED;
+    }
+    complaint::OPTION_EXPECTED
+}
+
 // The words that stand alone.
-fn with_option(o: Options, word: &[u8]) -> Options {
+fn with_option(o: Options, subcommand: u8, word: &[u8]) -> Options {
     let mut p = o;
-    let k = text::line_in(b"--lamps\n--setup\n--thresholds\n--quiet\n--json\n", word);
+    let k = option_of(subcommand, word);
     match k {
         0 => with_next(o, 1),
         1 => with_next(o, 2),
         2 => with_next(o, 3),
         3 => {
-            p.quiet = true;
+            p.raw = true;
             p
         }
         4 => {
+            p.quiet = true;
+            p
+        }
+        5 => {
             p.json = true;
             p
         }
-        _ => with_wrong(o, complaint::OPTION_EXPECTED),
+        _ => with_wrong(o, options_expected(subcommand)),
     }
 }
 
@@ -140,7 +172,7 @@ fn with_byte(o: Options, word: &[u8]) -> Options {
 }
 
 // A word more, which stands at `from` up to `to`.
-fn with_word(o: Options, word: &[u8], from: usize, to: usize) -> Options {
+fn with_word(o: Options, subcommand: u8, word: &[u8], from: usize, to: usize) -> Options {
     if o.wrong != complaint::NOTHING {
         return o;
     }
@@ -148,7 +180,7 @@ fn with_word(o: Options, word: &[u8], from: usize, to: usize) -> Options {
     match next {
         0 => {
             if is_option(word) {
-                return with_option(o, word);
+                return with_option(o, subcommand, word);
             }
             with_file(o, from, to)
         }
@@ -157,15 +189,15 @@ fn with_word(o: Options, word: &[u8], from: usize, to: usize) -> Options {
     }
 }
 
-// What is wrong once all words were taken: what is still missing.
-fn missing(o: Options) -> u8 {
+// What is wrong once all words were taken: what is still missing. Dump has no lamps.
+fn missing(o: Options, subcommand: u8) -> u8 {
     if o.wrong != complaint::NOTHING {
         return o.wrong;
     }
     if o.next != 0 {
         return expected(o.next);
     }
-    if !o.counted {
+    if !bits::or(o.counted, subcommand == complaint::DUMP) {
         return complaint::LAMPS_MISSING;
     }
     if o.named {
@@ -175,29 +207,23 @@ fn missing(o: Options) -> u8 {
     }
 }
 
-// The options in words that are separated by a byte 0.
-pub fn options_of(line: &[u8]) -> Options {
+// The options of a subcommand in words that are separated by a byte 0.
+pub fn options_of(line: &[u8], subcommand: u8) -> Options {
     let n = line.len();
     let mut o = no_words();
     let mut at = 0;
     while at < n {
         let end = bytes::scan::find(line, at, n, 0);
-        o = with_word(o, &line[at..end], at, end);
+        o = with_word(o, subcommand, &line[at..end], at, end);
         at = end + 1;
     }
-    with_wrong(o, missing(o))
+    with_wrong(o, missing(o, subcommand))
 }
 
-// What is wrong with the options of board, which has neither --quiet nor --json.
-pub fn wrong_for_board(o: Options) -> u8 {
-    if o.wrong == complaint::OPTION_EXPECTED {
-        return complaint::BOARD_OPTION_EXPECTED;
+// Opens the file that they name; - is standard input.
+pub fn open_file(name: &[u8]) -> i32 {
+    if check::same(name, b"-") {
+        return libc::STDIN_FILENO;
     }
-    if o.wrong != complaint::NOTHING {
-        return o.wrong;
-    }
-    if bits::or(o.quiet, o.json) {
-        return complaint::BOARD_OPTION_EXPECTED;
-    }
-    complaint::NOTHING
+    os::open_read(name)
 }

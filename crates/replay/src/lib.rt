@@ -1,10 +1,11 @@
-// osp replay and osp board: a script of telegrams and sensor reports done on a fresh chain, and the chain after it, as a table, as JSON
-// or as a picture. docs/TOOL.md has the forms.
+// osp replay and osp board: a script of telegrams and sensor reports, or a raw capture, done on a fresh chain, and the chain after it, as a
+// table, as JSON or as a picture. docs/TOOL.md has the forms.
 use chain::Delivered;
 use chain::LampRead;
 use lamps::Look;
 use lines::Style;
 use options::Options;
+use raw::Played;
 use rules::Defaults;
 use rules::Place;
 use rules::Thresholds;
@@ -14,6 +15,11 @@ use script::Stop;
 // The memory of a chain: enough for the largest.
 fn chain_memory() -> [u8; 16384] {
     [0; 16384]
+}
+
+// A run of a script, or one that never began.
+fn played(run: Run) -> Played {
+    Played { run, refusal: 0 }
 }
 
 // Says what ended a run before its script's end.
@@ -34,11 +40,12 @@ fn say_stop(err: i32, subcommand: u8, name: &[u8], run: Run) {
 }
 
 // The status of a run.
-fn status_of(run: Run) -> u8 {
+fn status_of(p: Played) -> u8 {
+    let run = p.run;
     let stop = run.stop;
     match stop {
         Stop::Ended => {
-            if run.refused {
+            if bits::or(run.refused, p.refusal != 0) {
                 return 1;
             }
             0
@@ -48,21 +55,13 @@ fn status_of(run: Run) -> u8 {
     }
 }
 
-// Whether a run came to its script's end.
+// Whether a run came to the end of its script, or to where its capture ended or was refused.
 fn is_ended(run: Run) -> bool {
     let stop = run.stop;
     match stop {
         Stop::Ended => true,
         _ => false,
     }
-}
-
-// Opens a script; - is standard input.
-fn open(name: &[u8]) -> i32 {
-    if check::same(name, b"-") {
-        return libc::STDIN_FILENO;
-    }
-    os::open_read(name)
 }
 
 fn defaults_of(o: Options) -> Defaults {
@@ -85,13 +84,23 @@ fn make(mem: &mut [u8], o: Options) -> u8 {
     }
 }
 
-// Opens a script and does it. The page holds what is not written yet.
-fn play(name: &[u8], style: Style, mem: &mut [u8], out: &mut [u8], book: &[u8]) -> Run {
-    let fd = open(name);
+// Opens a script, or a capture, and does it. The page holds what is not written yet.
+fn play(
+    name: &[u8],
+    is_capture: bool,
+    style: Style,
+    mem: &mut [u8],
+    out: &mut [u8],
+    book: &[u8],
+) -> Played {
+    let fd = options::open_file(name);
     if fd < 0 {
-        return script::run_of(Stop::Unread);
+        return played(script::run_of(Stop::Unread));
     }
-    script::do_file(fd, mem, out, style, book)
+    if is_capture {
+        return raw::do_file(fd, mem, out, style, book);
+    }
+    played(script::do_file(fd, mem, out, style, book))
 }
 
 // A lamp of the chain.
@@ -165,6 +174,14 @@ fn look_of(o: Options) -> Look {
     Look::Table
 }
 
+// Whether nothing is printed of lines.
+fn is_silent(style: Style) -> bool {
+    match style {
+        Style::Silent => true,
+        _ => false,
+    }
+}
+
 // How many characters stand above the table: the line feed of an empty line, or none.
 fn above(style: Style) -> usize {
     match style {
@@ -173,56 +190,84 @@ fn above(style: Style) -> usize {
     }
 }
 
-// The script, then the chain.
-fn show(name: &[u8], o: Options, subcommand: u8, style: Style, look: Look, err: i32) -> Run {
+// Prints the chain after a run that came to its end.
+fn print_after(
+    out: &mut [u8],
+    book: &[u8],
+    mem: &[u8],
+    style: Style,
+    look: Look,
+    lamps: u32,
+    p: Played,
+) -> Played {
+    let run = p.run;
+    if !is_ended(run) {
+        return p;
+    }
+    let empty = text::first(b"\n", above(style));
+    let count = (lamps % 65536) as u16;
+    Played {
+        run: print_chain(out, book, mem, look, empty, count, run),
+        refusal: p.refusal,
+    }
+}
+
+// The script or the capture, then the chain.
+fn show(name: &[u8], o: Options, subcommand: u8, style: Style, look: Look, err: i32) -> Played {
     let mut mem = chain_memory();
     let mut page = io::large_buffer();
     let book = words::book();
     let number = make(&mut mem, o);
     if number != 0 {
         complaint::say_refusal(err, subcommand, number);
-        return script::run_of(Stop::NoChain);
+        return played(script::run_of(Stop::NoChain));
     }
-    let played = play(name, style, &mut mem, &mut page, &book);
-    if !is_ended(played) {
-        return played;
+    let p = play(name, o.raw, style, &mut mem, &mut page, &book);
+    print_after(&mut page, &book, &mem, style, look, o.lamps, p)
+}
+
+// Says what is not printed: why a run ended, and where nothing is printed of a capture where it was refused. Answers the status.
+fn conclude(err: i32, subcommand: u8, name: &[u8], style: Style, p: Played) -> u8 {
+    let run = p.run;
+    say_stop(err, subcommand, name, run);
+    if bits::and(is_ended(run), bits::and(is_silent(style), p.refusal != 0)) {
+        complaint::say_stopped(err, subcommand, run.line, p.refusal);
     }
-    let count = (o.lamps % 65536) as u16;
-    print_chain(
-        &mut page,
-        &book,
-        &mem,
-        look,
-        text::first(b"\n", above(style)),
-        count,
-        played,
-    )
+    status_of(p)
 }
 
 // The subcommand replay, on the words behind its name. Answers its status.
 pub fn replay_file(line: &[u8], err: i32) -> u8 {
-    let o = options::options_of(line);
+    let o = options::options_of(line, complaint::REPLAY);
     if o.wrong != complaint::NOTHING {
         return complaint::say_use(err, complaint::REPLAY, o.wrong);
     }
     let name = text::part(line, o.from, o.to);
-    let run = show(name, o, complaint::REPLAY, style_of(o), look_of(o), err);
-    say_stop(err, complaint::REPLAY, name, run);
-    status_of(run)
+    let style = style_of(o);
+    let p = show(name, o, complaint::REPLAY, style, look_of(o), err);
+    conclude(err, complaint::REPLAY, name, style, p)
+}
+
+// The complaint about a line or a telegram that the chain refused.
+fn refused_by_chain(is_capture: bool) -> u8 {
+    if is_capture {
+        complaint::TELEGRAM_REFUSED
+    } else {
+        complaint::LINE_REFUSED
+    }
 }
 
 // The subcommand board. Of refused lines a picture shows nothing, so that they are told.
 pub fn draw(line: &[u8], err: i32) -> u8 {
-    let o = options::options_of(line);
-    let wrong = options::wrong_for_board(o);
-    if wrong != complaint::NOTHING {
-        return complaint::say_use(err, complaint::BOARD, wrong);
+    let o = options::options_of(line, complaint::BOARD);
+    if o.wrong != complaint::NOTHING {
+        return complaint::say_use(err, complaint::BOARD, o.wrong);
     }
     let name = text::part(line, o.from, o.to);
-    let run = show(name, o, complaint::BOARD, Style::Silent, Look::Picture, err);
-    say_stop(err, complaint::BOARD, name, run);
+    let p = show(name, o, complaint::BOARD, Style::Silent, Look::Picture, err);
+    let run = p.run;
     if bits::and(is_ended(run), run.refused) {
-        complaint::say(err, complaint::BOARD, complaint::LINE_REFUSED);
+        complaint::say(err, complaint::BOARD, refused_by_chain(o.raw));
     }
-    status_of(run)
+    conclude(err, complaint::BOARD, name, Style::Silent, p)
 }

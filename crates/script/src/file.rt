@@ -7,10 +7,11 @@ use crate::flush_page;
 use crate::is_going;
 use crate::run_of;
 use crate::stopped;
+use lines::Holds;
 use lines::Style;
 
 // Moves the bytes from an index up to another to the front.
-fn carry(buf: &mut [u8], from: usize, to: usize) -> usize {
+pub fn carry(buf: &mut [u8], from: usize, to: usize) -> usize {
     if to < from {
         return 0;
     }
@@ -31,7 +32,7 @@ fn move_byte(buf: &mut [u8], from: usize, to: usize) {
 }
 
 // Reads once behind the bytes carried.
-fn read_more(fd: i32, buf: &mut [u8], have: usize) -> isize {
+pub fn read_more(fd: i32, buf: &mut [u8], have: usize) -> isize {
     if buf.len() < have {
         return -1;
     }
@@ -60,7 +61,8 @@ fn do_chunk(
     run: Run,
     book: &[u8],
 ) -> Run {
-    let next = do_lines(text::first(buf, n), mem, out, style, run, book);
+    let s = text::first(buf, n);
+    let next = do_lines(s, Holds::Lines, mem, out, style, run, book);
     let left = carry(buf, next.used, n);
     carried(next, left)
 }

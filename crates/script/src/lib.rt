@@ -1,11 +1,14 @@
-// A script read from a file and done on a chain, line by line, in constant memory. The crate `lines` has what a line says and what is
-// printed of it.
+// A script read from a file and done on a chain, line by line, in constant memory; a telegram of a raw capture done likewise. The crate
+// `lines` has what a line says and what is printed of it.
 mod file;
 
 use chain::Delivered;
+pub use file::carry;
 pub use file::do_file;
+pub use file::read_more;
 use libc::STDOUT_FILENO;
 use lines::Given;
+use lines::Holds;
 use lines::Kind;
 use lines::Line;
 use lines::Style;
@@ -21,7 +24,8 @@ pub enum Stop {
     Unwritten,
 }
 
-// How far a run has come: bytes used of the page, lines, bytes of the text that were taken, whether anything was refused.
+// How far a run has come: bytes used of the page, lines of the script or bytes of the capture that were done, bytes of the text that were
+// taken, whether the chain refused anything.
 pub struct Run {
     pub at: usize,
     pub line: u64,
@@ -41,14 +45,14 @@ pub fn run_of(stop: Stop) -> Run {
     }
 }
 
-pub(crate) fn is_going(stop: Stop) -> bool {
+pub fn is_going(stop: Stop) -> bool {
     match stop {
         Stop::Going => true,
         _ => false,
     }
 }
 
-pub(crate) fn stopped(run: Run, stop: Stop) -> Run {
+pub fn stopped(run: Run, stop: Stop) -> Run {
     Run {
         at: run.at,
         line: run.line,
@@ -129,13 +133,6 @@ fn do_said(line: Line, mem: &mut [u8], out: &mut [u8], style: Style, run: Run, b
     gone_on(run, at, given.number != 0)
 }
 
-// The run at its next line, once there is room on the page.
-fn at_line(out: &[u8], before: Run) -> Run {
-    let mut run = flush_full(out, before);
-    run.line = std::num::wrapping_add_u64(run.line, 1);
-    run
-}
-
 // Does a line.
 fn do_line(
     line: Line,
@@ -145,7 +142,7 @@ fn do_line(
     before: Run,
     book: &[u8],
 ) -> Run {
-    let run = at_line(out, before);
+    let run = flush_full(out, before);
     let stop = run.stop;
     if !is_going(stop) {
         return run;
@@ -161,25 +158,27 @@ fn do_line(
 // Does the line at an index, if it is whole, or the last one. `used` then says where the next line begins.
 fn do_next(
     s: &[u8],
-    last: bool,
+    holds: Holds,
     mem: &mut [u8],
     out: &mut [u8],
     style: Style,
     run: Run,
     book: &[u8],
 ) -> Run {
-    let line = lines::line_at(s, run.used, last);
+    let line = lines::line_at(s, run.used, holds);
     if line.next == run.used {
         return run;
     }
     let mut done = do_line(line, mem, out, style, run, book);
     done.used = line.next;
+    done.line = std::num::wrapping_add_u64(done.line, line.step);
     done
 }
 
 // Does each whole line of a text; `used` then says where the line begins that is not whole.
-pub(crate) fn do_lines(
+pub fn do_lines(
     s: &[u8],
+    holds: Holds,
     mem: &mut [u8],
     out: &mut [u8],
     style: Style,
@@ -191,7 +190,7 @@ pub(crate) fn do_lines(
     let mut left = s.len();
     while left > 0 {
         let at = run.used;
-        run = do_next(s, false, mem, out, style, run, book);
+        run = do_next(s, holds, mem, out, style, run, book);
         if run.used == at {
             return run;
         }
@@ -205,7 +204,7 @@ pub(crate) fn do_lines(
 }
 
 // The run at the end of its file.
-fn ended(run: Run) -> Run {
+pub fn ended(run: Run) -> Run {
     let stop = run.stop;
     if is_going(stop) {
         return stopped(run, Stop::Ended);
@@ -227,5 +226,5 @@ pub(crate) fn do_last(
     }
     let mut begun = run;
     begun.used = 0;
-    ended(do_next(last, true, mem, out, style, begun, book))
+    ended(do_next(last, Holds::LastLine, mem, out, style, begun, book))
 }

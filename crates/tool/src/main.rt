@@ -76,12 +76,13 @@ fn run_first(line: &[u8], fits: bool) -> u8 {
 fn run_line(line: &[u8], err: i32) -> u8 {
     let word = first_word(line);
     let rest = after_word(line);
-    let k = text::line_in(b"fields\nbuild\nreplay\nboard\n", word);
+    let k = text::line_in(b"fields\nbuild\nreplay\nboard\ndump\n", word);
     match k {
         0 => fields::show_fields(rest, err),
         1 => ask::build::build(rest, err),
         2 => replay::replay_file(rest, err),
         3 => replay::draw(rest, err),
+        4 => dump::dump_file(rest, err),
         _ => run_other(word, rest, err),
     }
 }

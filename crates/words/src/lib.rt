@@ -1,6 +1,8 @@
 // What the tool calls things: commands, casts, refusals, states and flags, and a telegram in words. docs/TOOL.md has the
 // forms. A function named `put_..` appends to a lent buffer of which `at` bytes are used, and answers how many are used then.
 mod names;
+pub mod objects;
+mod reasons;
 pub mod texts;
 
 pub use names::Named;

@@ -1,4 +1,5 @@
 // The names of things, by their numbers, and what a letter in a form stands for.
+use crate::reasons::put_reason;
 use crate::texts::NAMES_AT;
 use text::put;
 
@@ -72,32 +73,6 @@ pub fn command_named(book: &[u8], word: &[u8]) -> Named {
         number += 1;
     }
     Named::Nothing
-}
-
-// Appends the paper's words for a number given back.
-fn put_reason(out: &mut [u8], at: usize, number: u8) -> usize {
-    put(
-        out,
-        at,
-        text::line_of(
-            b"done
-fewer than 4 bytes
-preamble is not 1010
-size index 5
-byte count is not 4 + payload size
-checksum differs
-unknown command, or an answer to a command that has none
-cast not allowed, or init at 000 while a lamp has no address
-payload size wrong for the command
-room too small
-builder field, PWM duty or fault number out of range, or payload length not listed
-lamp count not 1 to 1007, or no valid chain
-init runs past 3EF
-no lamp at that place
-",
-            number as usize,
-        ),
-    )
 }
 
 // The name that a letter asks for: c a command, s and S the state of a status byte, m and M its direction, o and O a mode.
@@ -269,9 +244,17 @@ fn repeated(letter: u8) -> u8 {
     if letter == b'_' { b' ' } else { b'^' }
 }
 
+// Appends the s of a word for so many things; one thing has none.
+fn put_plural(out: &mut [u8], at: usize, n: u64) -> usize {
+    if n == 1 {
+        return at;
+    }
+    text::put_byte(out, at, b's')
+}
+
 // Appends what a letter in a form stands for. d is a number in decimal; for digits, names and lists see above; r is a refusal's reason;
-// x and X are the bytes, without and with a space before each, t the bytes as text; > spaces up to a column of the line that began
-// at `start`; _ and ^ a character so many times. Any other letter is nothing.
+// p the s of a plural; x and X are the bytes, without and with a space before each, t the bytes as text; > spaces up to a column of the
+// line that began at `start`; _ and ^ a character so many times. Any other letter is nothing.
 pub(crate) fn put_code(
     out: &mut [u8],
     at: usize,
@@ -287,6 +270,7 @@ pub(crate) fn put_code(
         b'c' | b's' | b'm' | b'o' | b'S' | b'M' | b'O' => put_named(out, at, book, letter, n),
         b'n' | b'f' | b'F' | b'g' | b'G' => put_list(out, at, book, letter, n),
         b'r' => put_reason(out, at, (n % 256) as u8),
+        b'p' => put_plural(out, at, n),
         b'x' => text::put_all_hex(out, at, s),
         b'X' => text::put_spaced_hex(out, at, s),
         b't' => put(out, at, s),

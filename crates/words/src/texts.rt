@@ -1,5 +1,5 @@
-// The book of a replay: the forms and names that it prints, laid out once and then lent, since a text in the code is laid out anew at
-// each call.
+// The book of a replay and of a dump: the forms and names that they print, laid out once and then lent, since a text in the code is laid
+// out anew at each call.
 
 // The rows of `put_forms`: of commands and answers ..
 pub const TO_EVERYONE: u8 = 0;
@@ -61,6 +61,24 @@ pub const JSON_ANSWER: u8 = 27;
 pub const JSON_REFUSED: u8 = 28;
 
 pub const JSON_DONE: u8 = 29;
+// Of a raw capture in place of a script ..
+pub const POSITION_REFUSED: u8 = 30;
+
+pub const JSON_CAPTURED: u8 = 31;
+
+pub const STOPPED: u8 = 32;
+
+pub const JSON_STOPPED: u8 = 33;
+// .. and of one that is listed.
+pub const LISTED: u8 = 34;
+
+pub const NEITHER: u8 = 35;
+
+pub const JSON_LISTED: u8 = 36;
+
+pub const JSON_ANSWERS: u8 = 37;
+
+pub const JSON_NEITHER: u8 = 38;
 
 // Where the names begin in the book: behind room for 48 forms.
 pub const NAMES_AT: usize = 3072;
@@ -100,6 +118,15 @@ place %d: temperature %b, sets %f\n%;                          |
 ,\"address\":%d,\"answer\":\"%x\"}\n%;                               |
 ,\"number\":%d,\"refusal\":\"%r\"}\n%;                               |
 ,\"number\":0}\n%;                                               |
+position %d: refused %d: %r\n%;                                |
+{\"position\":%d,\"tx\":\"%x\"%;                                    |
+capture stopped at position %d: refused %d: %r\n%;             |
+{\"stopped\":%d,\"number\":%d,\"refusal\":\"%r\"}\n%;                  |
+ %X%>%;                                                       |
+neither: as a command refused %d, as an answer refused %d%;   |
+{\"position\":%d,\"bytes\":\"%x\"%;                                 |
+,\"number\":0,\"answers\":\"%c\"%;                                  |
+,\"number\":0,\"as_command\":%d,\"as_answer\":%d}\n%;                |
 ",
     )
 }

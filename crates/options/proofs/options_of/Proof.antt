@@ -9,10 +9,10 @@ use Rattle.options.proofs.options_of.Statement.{statement}
 use Rattle.options.proofs.options_of.Tie as tie
 
 abbrev Inv-loop : tie.InvT-loop
-Inv-loop line n o₀ at₀ o at = n ≡ length line
+Inv-loop line subcommand n o₀ at₀ o at = n ≡ length line
 
 abbrev μ-loop : tie.MeasureT-loop
-μ-loop line n o₀ at₀ o at = n - at
+μ-loop line subcommand n o₀ at₀ o at = n - at
 
 pub options-of-spec : {M : Type 1} → statement M
 options-of-spec =

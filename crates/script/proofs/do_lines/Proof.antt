@@ -8,10 +8,10 @@ use Rattle.script.proofs.do_lines.Statement.{statement}
 use Rattle.script.proofs.do_lines.Tie as tie
 
 abbrev Inv-loop : tie.InvT-loop
-Inv-loop s mem₀ out₀ style book run₀ left₀ mem out run left = (length mem ≡ length mem₀) × (length out ≡ length out₀)
+Inv-loop s holds mem₀ out₀ style book run₀ left₀ mem out run left = (length mem ≡ length mem₀) × (length out ≡ length out₀)
 
 abbrev μ-loop : tie.MeasureT-loop
-μ-loop s mem₀ out₀ style book run₀ left₀ mem out run left = left
+μ-loop s holds mem₀ out₀ style book run₀ left₀ mem out run left = left
 
 pub do-lines-spec : {M : Type 1} → statement M
 do-lines-spec =

@@ -1,0 +1,114 @@
+// What a telegram is, below its table: a command or an answer in words, or why it is refused, with the failed field marked.
+use verdict::Verdict;
+use words::Told;
+use words::bare;
+use words::values_told;
+
+// A column of the table, for the mark of a failed field.
+struct Column {
+    from: u64,
+    width: u64,
+}
+
+// The status of a verdict.
+pub(crate) fn is_refused(v: Verdict) -> u8 {
+    match v {
+        Verdict::Refused(_, _) => 1,
+        _ => 0,
+    }
+}
+
+// How many characters n bytes take, less some.
+fn less(n: u64, some: u64) -> u64 {
+    std::num::wrapping_sub_u64(n % 256 * 16, some)
+}
+
+// The column of the field that a refusal is about, in a table of n bytes. 4 and 5 are given to 4 bytes and more, 1 to one and more.
+fn column_of(number: u8, n: u64) -> Column {
+    match number {
+        1 => Column {
+            from: 1,
+            width: less(n, 1),
+        },
+        2 => Column { from: 1, width: 7 },
+        4 => Column {
+            from: 49,
+            width: less(n, 49),
+        },
+        5 => Column {
+            from: less(n, 15),
+            width: 15,
+        },
+        6 => Column {
+            from: 35,
+            width: 13,
+        },
+        7 => Column { from: 9, width: 19 },
+        _ => Column { from: 29, width: 5 },
+    }
+}
+
+// The mark of a failed field; nothing where there is no table.
+fn mark_told(number: u8, n: usize) -> Told {
+    match n {
+        1..=16 => {
+            let c = column_of(number, n as u64);
+            values_told(2, c.from, c.width, 0, 0)
+        }
+        _ => bare(1),
+    }
+}
+
+// What stands before the words of a verdict.
+fn before_told(v: Verdict, n: usize) -> Told {
+    match v {
+        Verdict::Sent => bare(3),
+        Verdict::Given => bare(4),
+        Verdict::Refused(number, _) => mark_told(number, n),
+    }
+}
+
+// What stands behind them: the line's end; one refusal of the reader, or two of the dissectors.
+fn after_told(v: Verdict) -> Told {
+    match v {
+        Verdict::Sent => bare(0),
+        Verdict::Given => bare(0),
+        Verdict::Refused(number, answer) => {
+            let n = number as u64;
+            let m = answer as u64;
+            values_told(if number < 6 { 5 } else { 6 }, n, n, m, m)
+        }
+    }
+}
+
+fn say(out: &mut [u8], at: usize, book: &[u8], told: Told) -> usize {
+    words::put_row(
+        out,
+        at,
+        book,
+        b"\n%;                                                           |
+%;                                                            |
+%_%^\n%;                                                       |
+command: %;                                                   |
+answer: %;                                                    |
+refused %d: %r\n%;                                             |
+as a command refused %d: %r\nas an answer refused %d: %r\n%;    |
+",
+        told,
+        b"",
+    )
+}
+
+// Appends the verdict of n bytes, of which `bytes` has the first.
+pub(crate) fn put_verdict(
+    out: &mut [u8],
+    at: usize,
+    book: &[u8],
+    v: Verdict,
+    bytes: [u8; 16],
+    n: usize,
+) -> usize {
+    let a = say(out, at, book, before_told(v, n));
+    let b = verdict::put_words(out, a, book, v, words::message_of(bytes, n));
+    say(out, b, book, after_told(v))
+}
