@@ -167,7 +167,7 @@ uint32_t osp_lamp(const uint8_t *record, size_t len, uint32_t place, uint8_t *ou
  * Reads the next telegram of a chunk of n bytes, from index *at on, and moves
  * *at behind it. Writes the telegram. Number 0 with count 0 is no telegram: all
  * of the chunk is taken and *at is n (or *at was n or more and stays), or the
- * run has ended. However the run is cut, the telegrams, the refusal and its
+ * run has ended and *at stays. However the run is cut, the telegrams, the refusal and its
  * position are those of the uncut run.
  * Refusals 11, then the reader's own (2 as soon as a telegram's first byte is
  * in, 3 with its third, 5 with its last), then 9. A refusal leaves *at and the
