@@ -3,11 +3,9 @@
 use mathlib.Core.Path.{_≡_, refl, sym, ap, _∙_, subst}
 use mathlib.Core.Bool.{true}
 use mathlib.Core.List.{List, [], _∷_, _++_, append-nil}
-use Prim.Native.Nat.{ℕ, _+_, _≤_, _<_}
+use Prim.Native.Nat.{ℕ, _+_, _≤_}
 use native.Mathlib.Omega.{arith}
-use native.Mathlib.Numerals.{add-one}
-use lib.ListN.{length, take, set, length-append}
-use lib.Seq.{take-suc-set}
+use lib.ListN.{length, take, length-append}
 use Rattle.telegram.specs.Numbers.{Outcome, refused, done}
 use Rattle.telegram.specs.Telegram.{reading}
 use Rattle.telegram.specs.declared.Telegram.{Telegram}
@@ -30,10 +28,6 @@ next-none s at n e o =
     ∙ ap (λ (z : State). without (done more) (at + 0) z) (sym (is-carrying s n e o))
     ∙ ap (λ (w : List ℕ). without (done more) (at + 0) (carrying w (s .position))) (sym (append-nil c))
     ∙ sym (ap (λ (k : Cutting). nextCut k (c ++ []) 0 s at) x)
-
--- A byte is put behind those that are carried.
-pub stored : (s : State) (b : ℕ) → s .count < length (s .bytes) → take (s .count + 1) (set (s .bytes) (s .count) b) ≡ carriedIn s ++ b ∷ []
-stored s b h = rw add-one (take-suc-set (s .bytes) (s .count) b h)
 
 -- The telegrams ts that a byte completed, told by the state z that it left: one, or none.
 pub record Tells (ts : List (List ℕ)) (z : State) : Type 0 where

@@ -1,5 +1,6 @@
 pub mod States
 pub mod Padding
+pub mod Clear
 pub mod Twelve
 pub mod Runs
 pub mod Telegrams

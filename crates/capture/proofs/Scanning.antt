@@ -1,14 +1,13 @@
--- A chunk read byte by byte: its next byte, whether the bytes from an index on are zero, and a reading that reads no more.
+-- A chunk read byte by byte: its next byte, and a reading that reads no more.
 -- Assumes nothing.
 use mathlib.Core.Path.{_≡_, refl, sym, _∙_, ap, ap₂}
-use mathlib.Core.Bool.{true, false}
+use mathlib.Core.Bool.{true}
 use mathlib.Core.List.{List, _∷_}
 use Prim.Native.Nat.{ℕ, _+_, _<_}
 use native.Mathlib.Numerals.{add-one}
-use borrow.Author.Tests.{eq-eqb, ne-eqb}
 use lib.ListN.{length, getD, drop, length-append}
 use lib.Seq.{drop-cons}
-use Rattle.capture.specs.State.{State, zeros, isLeft}
+use Rattle.capture.specs.State.{State, isLeft}
 use Rattle.capture.specs.Run.{fed, given, run, telegramsIn}
 use Rattle.capture.specs.Calls.{scanned, scanning}
 use Rattle.capture.specs.Uncut.{Final}
@@ -18,12 +17,6 @@ use Rattle.capture.proofs.Runs.{Gives, stays}
 module _ (l : List ℕ) (i : ℕ) (h : i < length l) where
   from-next : drop i l ≡ getD l i 0 ∷ drop (i + 1) l
   from-next = rw add-one (drop-cons l i 0 h)
-
-  pub zeros-not : (getD l i 0 ≡ 0 → ⊥) → false ≡ zeros (drop i l)
-  zeros-not n = rw from-next (rw (ne-eqb _ _ n) refl)
-
-  pub zeros-more : getD l i 0 ≡ 0 → zeros (drop (i + 1) l) ≡ zeros (drop i l)
-  zeros-more e = rw from-next (rw (eq-eqb _ _ e) refl)
 
   -- The byte at i is fed to a reading.
   module _ (s z : State) (e : z ≡ fed s (getD l i 0)) where

@@ -1,4 +1,4 @@
-// The next telegram of an open reading: inside the chunk where nothing is carried, else from the bytes carried and those of the chunk.
+// The next telegram of an open reading, from the bytes carried and those of the chunk.
 use crate::Next;
 use crate::Phase;
 use crate::Reading;
@@ -16,7 +16,7 @@ ghost use lib.ListN.{length, take, drop};
 ghost use Rattle.telegram.specs.Numbers.{refused, numberOf};
 ghost use Rattle.telegram.specs.Telegram.{reading};
 ghost use Rattle.frame.specs.Frame.{incomplete, cutting};
-ghost use Rattle.capture.specs.State.{stateOf, standingOf, stopped, going, isLeft, resting as restingAt};
+ghost use Rattle.capture.specs.State.{stateOf, standingOf, stopped, going, padded, isLeft, resting as restingAt};
 ghost use Rattle.capture.specs.Calls.{stepAs, nextAs, without, nextJudged, nextCut, nextBy};
 
 // Twelve bytes with those of a slice put over them from an index on.
@@ -71,30 +71,27 @@ fn next_whole(s: &[u8], carried: Reading, at: usize) -> Next
     }
 }
 
-// What the bytes of `s` give, from a telegram's first on, of which the first `count` were carried.
-pub(crate) fn next_in(s: &[u8], carried: Reading, at: usize) -> Next
-    requires { ⌜ (carried .count ≤ length (now s)) × (cutting (take (carried .count) (now s)) ≡ incomplete) × (at + (length (now s) - carried .count) < 18446744073709551616) ⌝ }
-    ensures { λ r. ⌜ nextAs r ≡ nextCut (cutting (now (s .entry))) (now (s .entry)) (length (now (s .entry)) - carried .count) (stateOf carried) at ⌝ }
+// What the first `n` bytes give, from a telegram's first on, of which the first `count` were carried; those behind them are zero.
+fn next_in(bytes: [u8; 12], n: usize, carried: Reading, at: usize) -> Next
+    requires { ⌜ (carried .count ≤ n) × (n ≤ 12) × (padded (take n bytes) ≡ bytes) × (cutting (take (carried .count) bytes) ≡ incomplete) × (at + (n - carried .count) < 18446744073709551616) ⌝ }
+    ensures { λ r. ⌜ nextAs r ≡ nextCut (cutting (take n bytes)) (take n bytes) (n - carried .count) (stateOf carried) at ⌝ }
 {
     let position = carried.position;
-    let shown = frame::cut_first(s);
+    let shown = frame::cut_first(&bytes[..n]);
     match shown {
-        Cut::Incomplete => {
-            let n = s.len();
-            Next {
-                step: Step::More,
-                bytes: [0; 12],
-                at: at + (n - carried.count),
-                reading: Reading {
-                    phase: Phase::Open,
-                    count: n,
-                    position,
-                    bytes: placed([0; 12], 0, s),
-                },
-            }
-        }
+        Cut::Incomplete => Next {
+            step: Step::More,
+            bytes: [0; 12],
+            at: at + (n - carried.count),
+            reading: Reading {
+                phase: Phase::Open,
+                count: n,
+                position,
+                bytes,
+            },
+        },
         Cut::Broken(e) => stop(e, position, at),
-        Cut::Whole(k) => next_whole(&s[..k], carried, at),
+        Cut::Whole(k) => next_whole(&bytes[..k], carried, at),
     }
 }
 
@@ -105,7 +102,7 @@ fn smaller(a: usize, b: usize) -> usize
     if a < b { a } else { b }
 }
 
-// The next telegram where bytes of it are carried: those with the chunk's behind them, twelve at most.
+// The next telegram where the chunk has bytes left: the bytes carried with those behind them, twelve at most.
 fn next_across(chunk: &[u8], carried: Reading, at: usize) -> Next
     requires { ⌜ (isLeft (stateOf carried) ≡ true) × (standingOf (carried .phase) ≡ going) × (at < length (now chunk)) ⌝ }
     ensures { λ r. ⌜ nextAs r ≡ nextBy going (drop at (now (chunk .entry))) (stateOf carried) at ⌝ }
@@ -115,8 +112,7 @@ fn next_across(chunk: &[u8], carried: Reading, at: usize) -> Next
     let m = smaller(12 - count, chunk.len() - at);
     let end = at + m;
     let bytes = placed(before, count, &chunk[at..end]);
-    let total = count + m;
-    next_in(&bytes[..total], carried, at)
+    next_in(bytes, count + m, carried, at)
 }
 
 // The next telegram of an open reading.
@@ -126,9 +122,6 @@ pub(crate) fn next_open(chunk: &[u8], carried: Reading, at: usize) -> Next
 {
     if chunk.len() <= at {
         return bare(Step::More, at, carried);
-    }
-    if carried.count == 0 {
-        return next_in(&chunk[at..], carried, at);
     }
     next_across(chunk, carried, at)
 }

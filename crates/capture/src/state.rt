@@ -3,7 +3,7 @@ use crate::Phase;
 use crate::Reading;
 use frame::Cut;
 ghost use mathlib.Core.Path.{_≡_};
-ghost use Prim.Native.Nat.{_≤_};
+ghost use Prim.Native.Nat.{_+_, _*_, _^_, _≤_, _<_};
 ghost use lib.ListN.{take, drop};
 ghost use mathlib.Core.Bool.{_&&_};
 ghost use lib.Dec.{leb};
@@ -24,18 +24,46 @@ pub fn resting(phase: Phase, position: u64) -> Reading
     }
 }
 
-// Whether all bytes from an index on are zero.
+// Four bytes as a number, low byte first.
+fn four(a: u8, b: u8, c: u8, d: u8) -> u64
+    ensures { λ r. ⌜ (r ≡ a + b * 256 + c * 65536 + d * 16777216) × (r < 4294967296) ⌝ }
+{
+    a as u64 + b as u64 * 256 + c as u64 * 65536 + d as u64 * 16777216
+}
+
+// A power of 256.
+fn power(k: usize) -> u64
+    requires { ⌜ k ≤ 7 ⌝ }
+    ensures { λ r. ⌜ (r ≡ 256 ^ k) × (r ≤ 72057594037927936) ⌝ }
+{
+    match k {
+        0 => 1,
+        1 => 256,
+        2 => 65536,
+        3 => 16777216,
+        4 => 4294967296,
+        5 => 1099511627776,
+        6 => 281474976710656,
+        _ => 72057594037927936,
+    }
+}
+
+// Whether all bytes from an index on are zero: then the bytes, low byte first, are a number below that power of 256.
 fn zero_from(bytes: [u8; 12], from: usize) -> bool
+    requires { ⌜ from ≤ 12 ⌝ }
     ensures { λ r. ⌜ r ≡ zeros (drop from bytes) ⌝ }
 {
-    let mut i = from;
-    while i < 12 {
-        if bytes[i] != 0 {
-            return false;
-        }
-        i += 1;
+    let high = four(bytes[8], bytes[9], bytes[10], bytes[11]);
+    let limit = power(from % 8);
+    if 8 <= from {
+        return high < limit;
     }
-    true
+    if high != 0 {
+        return false;
+    }
+    let upper = four(bytes[4], bytes[5], bytes[6], bytes[7]);
+    let lower = four(bytes[0], bytes[1], bytes[2], bytes[3]);
+    lower + upper * 4294967296 < limit
 }
 
 // Whether the first `n` bytes begin a telegram that is neither refused nor whole.

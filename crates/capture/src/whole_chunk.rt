@@ -1,7 +1,7 @@
 // A whole chunk, byte by byte: how many telegrams it completes, and where reading stands after it.
 use crate::Phase;
 use crate::Reading;
-use crate::gather::next_in;
+use crate::gather::next_open;
 ghost use mathlib.Core.Path.{_≡_};
 ghost use mathlib.Core.Bool.{true};
 ghost use lib.ListN.{length};
@@ -13,11 +13,8 @@ fn feed(s: Reading, b: u8) -> Reading
     requires { ⌜ (isLeft (stateOf s) ≡ true) × (standingOf (s .phase) ≡ going) ⌝ }
     ensures { λ r. ⌜ (stateOf r ≡ fed (stateOf s) b) × (isLeft (stateOf r) ≡ true) ⌝ }
 {
-    let n = s.count;
-    let mut bytes = s.bytes;
-    bytes[n] = b;
-    let m = n + 1;
-    let next = next_in(&bytes[..m], s, 0);
+    let one = [b];
+    let next = next_open(&one, s, 0);
     next.reading
 }
 

@@ -7,7 +7,7 @@ use Prim.Native.Nat.{ℕ, zero, suc, _+_, _-_, _≤_, _<_}
 use native.Mathlib.Omega.{arith}
 use borrow.Author.Tests.{le-leb}
 use lib.Dec.{leb}
-use lib.ListN.{length, getD, take, drop, replicate, length-append, length-drop, take-append-drop, getD-replicate}
+use lib.ListN.{length, getD, take, drop, set, replicate, length-append, length-drop, take-append-drop, getD-replicate}
 use lib.Seq.{length-take-le, take-all, take-at, take-suc, drop-at, drop-cons, drop-drop, getD-append-add}
 use Rattle.telegram.specs.Numbers.{done}
 use Rattle.telegram.specs.Telegram.{Bytes}
@@ -17,7 +17,7 @@ use Rattle.capture.specs.State.{Standing, going, ended, stopped, State, carried
 use Rattle.capture.specs.Uncut.{Taken, Position}
 use Rattle.capture.proofs.States.{left, none-stopped, carried-count, carried-padded}
 use Rattle.capture.proofs.Taken.{taken-fresh}
-use Rattle.reader.specs.Layout.{standingIn, countIn, carriedBytes, stateIn, standingByte, valueByte, positionBytes, stateHead, stateBytes, holding}
+use Rattle.reader.specs.Layout.{standingIn, countIn, positionIn, carriedBytes, stateIn, standingByte, valueByte, positionBytes, stateHead, stateBytes, holding}
 use Rattle.reader.specs.Kept.{FreshIsZeros, FreshIsTaken, StateComesBack, HeldStays, TakenIn}
 use Rattle.reader.proofs.States.{standingState, state-by, state-long, no-standing}
 use Rattle.reader.proofs.Positions.{position-back, position-each, number-position, number-back}
@@ -154,9 +154,30 @@ module _ (s : State) (mem : List ℕ) (e : stateIn mem ≡ done s) where
       ∙ parts (standingState mem (held-as .0)) mem (omega (arith, carried-twelve))
       ∙ ap₂ (λ (a b : List ℕ). a ++ b) (head-as y) rest-as ∙ all-listed mem 0 10 (omega (arith, held-long))
 
+  -- An open one: byte 0 is 0, and the position stands there.
+  pub held-open : s .standing ≡ going → (getD mem 0 0 ≡ 0) × (positionIn mem ≡ s .position)
+  held-open o =
+      let w = said (getD mem 0 0) (getD mem 1 0) (held-as .0) (held-as .1) in
+      let k : held-as .0 ≡ going = ap (λ (z : State). z .standing) (held-as .2) ∙ o in
+      (sym (w .0) ∙ ap standingByte k, ap (λ (z : State). z .position) (held-as .2))
+
 pub held-stays : HeldStays
 unfolding HeldStays
 held-stays s mem y e = stays s mem e y
+
+-- An open state at the position that stands in memory: only its count and its bytes are written.
+pub open-kept : (s : State) (mem : List ℕ) → Bytes mem → 21 ≤ length mem → length (s .bytes) ≡ 12 → s .standing ≡ going → getD mem 0 0 ≡ 0
+    → positionIn mem ≡ s .position
+    → (take 10 (set mem 1 (s .count)) ++ take 11 (s .bytes)) ++ drop 21 (set mem 1 (s .count)) ≡ holding s mem
+open-kept s mem y h n o z q =
+    let t : List ℕ = take 11 (s .bytes) in
+    let p = sym (number-back _ _ _ _ _ _ _ _ (y 2) (y 3) (y 4) (y 5) (y 6) (y 7) (y 8) (y 9)) in
+    let d = drop-drop 11 10 mem in
+    ap (λ (l : List ℕ). (take 10 (set l 1 (s .count)) ++ t) ++ drop 21 (set l 1 (s .count))) (sym (all-listed mem 0 10 (omega arith)))
+    ∙ (λ i. ((z i ∷ s .count ∷ p i) ++ t) ++ d i)
+    ∙ ap (λ (x : ℕ). ((0 ∷ s .count ∷ positionBytes x) ++ t) ++ drop 21 mem) q
+    ∙ ap (λ (k : Standing). ((standingByte k ∷ valueByte k (s .count) ∷ positionBytes (s .position)) ++ t) ++ drop 21 mem) (sym o)
+    ∙ sym (parts s mem (omega arith))
 
 -- Memory that holds a state which calls take up.
 module _ (s : State) (mem : List ℕ) (k : TakenIn s mem) where

@@ -99,6 +99,31 @@ next-fits-by false c s at e y z = subst (Fits at) (next-not c s at e) (refused-f
 pub next-fits : (c : List ℕ) (s : State) (at : ℕ) → Bytes (s .bytes) → Bytes c → Fits at (nexting c s at)
 next-fits c s at = next-fits-by (isLeft s) c s at refl
 
+-- Where more bytes are needed, the reading was open and is, and the position stays.
+abbrev pub Waits : Standing → State → Given → Type 0
+Waits k s g = g .answer ≡ done more → (k ≡ going) × (g .state .standing ≡ going) × (g .state .position ≡ s .position)
+
+judged-waits : (o : Outcome Telegram) (c : List ℕ) (k : ℕ) (s : State) (at : ℕ) → Waits going s (nextJudged o c k s at)
+judged-waits (done t) c k s at e = let z : _≡_ {A = ℕ} 0 1 = cc in absurd (omega arith)
+judged-waits (refused n) c k s at e = absurd (never e)
+
+cut-waits : (k : Cutting) (c : List ℕ) (m : ℕ) (s : State) (at : ℕ) → Waits going s (nextCut k c m s at)
+cut-waits incomplete c m s at e = (refl, refl, refl)
+cut-waits (broken n) c m s at e = absurd (never e)
+cut-waits (whole k) c m s at e = judged-waits (reading (take k c)) (take k c) k s at e
+
+by-waits : (k : Standing) (l : List ℕ) (s : State) (at : ℕ) → Waits k s (nextBy k l s at)
+by-waits going l s at e = cut-waits (cutting (carriedIn s ++ l)) (carriedIn s ++ l) (length l) s at e
+by-waits ended l s at e = let z : _≡_ {A = ℕ} 0 1 = cc in absurd (omega arith)
+by-waits (stopped n) l s at e = absurd (never e)
+
+next-waits-by : (b : Bool) (c : List ℕ) (s : State) (at : ℕ) → isLeft s ≡ b → Waits (s .standing) s (nexting c s at)
+next-waits-by true c s at e = subst (Waits (s .standing) s) (next-by c s at e (s .standing) refl) (by-waits (s .standing) (drop at c) s at)
+next-waits-by false c s at e = subst (Waits (s .standing) s) (next-not c s at e) (λ q. absurd (never q))
+
+pub next-waits : (c : List ℕ) (s : State) (at : ℕ) → Waits (s .standing) s (nexting c s at)
+next-waits c s at = next-waits-by (isLeft s) c s at refl
+
 -- Positions stay below 2^64.
 judged-position : (o : Outcome Telegram) (k p : ℕ) → Position p → Position (judged o k p .position)
 judged-position (done t) k p h = omega arith

@@ -8,9 +8,9 @@ ghost use mathlib.Core.Bool.{not, _&&_};
 ghost use Prim.Native.Nat.{_+_, _%_, _≤_};
 ghost use mathlib.Core.List.{_++_};
 ghost use lib.Dec.{leb};
-ghost use lib.ListN.{length};
+ghost use lib.ListN.{length, getD};
 ghost use Rattle.telegram.specs.Numbers.{refused, refuse, done, front};
-ghost use Rattle.capture.specs.State.{stopped, standingOf, stateOf};
+ghost use Rattle.capture.specs.State.{going, stopped, standingOf, stateOf};
 ghost use Rattle.reader.specs.Layout.{readerSize, begunAs, standingIn, countIn, positionIn, carriedBytes, heldAs, stateIn, standingByte, valueByte, positionBytes, stateHead, holding};
 
 // How a reading stands, if the first two bytes say it.
@@ -215,4 +215,14 @@ pub(crate) fn keep(r: Reading, mem: &mut [u8])
     let head = head_of(r);
     let bytes = r.bytes;
     write_parts(&head, &bytes[..11], mem);
+}
+
+// Keeps an open state in memory that holds one at the same position: only the count and the bytes carried change.
+pub(crate) fn keep_carried(r: Reading, mem: &mut [u8])
+    requires { ⌜ (r .count ≤ 11) × (readerSize ≤ length (now mem)) × (standingOf (r .phase) ≡ going) × (getD (now mem) 0 0 ≡ 0) × (positionIn (now mem) ≡ r .position) ⌝ }
+    ensures { λ _. ⌜ now (mem .exit) ≡ holding (stateOf r) (now (mem .entry)) ⌝ }
+{
+    let bytes = r.bytes;
+    mem[1] = r.count as u8;
+    bytes::copy(&bytes[..11], &mut mem[10..]);
 }

@@ -7,20 +7,20 @@ use capture::Next;
 use capture::Reading;
 use capture::Step;
 use kept::keep;
+use kept::keep_carried;
 use kept::read_state;
-use passing::at_rest;
 use passing::pass;
-use passing::read_at;
+use passing::read_whole;
 use telegram::Read;
 use telegram::Refusal;
 ghost use mathlib.Core.Path.{_≡_};
 ghost use mathlib.Core.Bool.{cond};
 ghost use Prim.Native.Nat.{_≤_};
 ghost use lib.Dec.{ltb};
-ghost use lib.ListN.{length, take};
+ghost use lib.ListN.{length, getD, take};
 ghost use Rattle.telegram.specs.Numbers.{numberOf, fitted, leaves};
-ghost use Rattle.capture.specs.State.{stateOf};
-ghost use Rattle.reader.specs.Layout.{readerSize, holding};
+ghost use Rattle.capture.specs.State.{going, standingOf, stateOf};
+ghost use Rattle.reader.specs.Layout.{readerSize, positionIn, holding};
 ghost use Rattle.reader.specs.Interface.{returned, keptBy, readerNext, readerEnd, readerPosition};
 
 // A state read out of memory, if it holds one.
@@ -37,6 +37,17 @@ fn move_on(n: Next, reader: &mut [u8], at: &mut usize)
 {
     let to = n.at;
     keep(n.reading, reader);
+    *at = to;
+}
+
+// Keeps what is carried where more bytes are needed, and moves the index.
+fn wait(n: Next, reader: &mut [u8], at: &mut usize)
+    requires { ⌜ (n .reading .count ≤ 11) × (readerSize ≤ length (now reader)) × (standingOf (n .reading .phase) ≡ going) × (getD (now reader) 0 0 ≡ 0) × (positionIn (now reader) ≡ n .reading .position) ⌝ }
+    ensures { λ _. ⌜ now (reader .exit) ≡ holding (stateOf (n .reading)) (now (reader .entry)) ⌝ }
+    ensures { λ _. ⌜ now (at .exit) ≡ n .at ⌝ }
+{
+    let to = n.at;
+    keep_carried(n.reading, reader);
     *at = to;
 }
 
@@ -87,7 +98,7 @@ fn next_carried(reader: &mut [u8], chunk: &[u8], at: &mut usize, out: &mut [u8])
     match step {
         Step::Telegram(t) => give(n, 4 + t.size, reader, at, out),
         Step::More => {
-            move_on(n, reader, at);
+            wait(n, reader, at);
             0
         }
         Step::Ended => {
@@ -105,10 +116,7 @@ pub fn next_telegram(reader: &mut [u8], chunk: &[u8], at: &mut usize, out: &mut 
     ensures { λ r. ⌜ now (at .exit) ≡ readerNext (now (reader .entry)) (now (chunk .entry)) (now (at .entry)) (length (now (out .entry))) .at ⌝ }
     ensures { λ r. ⌜ now (out .exit) ≡ leaves (readerNext (now (reader .entry)) (now (chunk .entry)) (now (at .entry)) (length (now (out .entry))) .outcome) (now (out .entry)) ⌝ }
 {
-    if !at_rest(reader) {
-        return next_carried(reader, chunk, at, out);
-    }
-    let r = read_at(chunk, *at);
+    let r = read_whole(reader, chunk, *at);
     match r {
         Read::Accepted(t) => pass(t, chunk, reader, at, out),
         Read::Refused(_) => next_carried(reader, chunk, at, out),

@@ -32,7 +32,7 @@ fn all_zero(s: &[u8]) -> bool
 }
 
 // Whether memory holds an open reading that carries nothing.
-pub(crate) fn at_rest(reader: &[u8]) -> bool
+fn at_rest(reader: &[u8]) -> bool
     ensures { λ r. ⌜ (r ≡ true → AtRest (now (reader .entry))) ⌝ }
 {
     if reader.len() < 21 {
@@ -48,7 +48,7 @@ pub(crate) fn at_rest(reader: &[u8]) -> bool
 }
 
 // The telegram at an index of a chunk, where it lies whole there and the telegram reader accepts it; else some refusal.
-pub(crate) fn read_at(chunk: &[u8], at: usize) -> Read
+fn read_at(chunk: &[u8], at: usize) -> Read
     ensures { λ r. ⌜ ((t : Telegram) → readAs r ≡ done t → reading (take (4 + t .size) (drop at (now (chunk .entry)))) ≡ done t) ⌝ }
 {
     let n = chunk.len();
@@ -66,6 +66,16 @@ pub(crate) fn read_at(chunk: &[u8], at: usize) -> Read
     }
     let end = at + total;
     telegram::read_telegram(&chunk[at..end])
+}
+
+// The telegram that is given as it lies in the chunk, where nothing is carried; else some refusal.
+pub(crate) fn read_whole(reader: &[u8], chunk: &[u8], at: usize) -> Read
+    ensures { λ r. ⌜ ((t : Telegram) → readAs r ≡ done t → AtRest (now (reader .entry)) × (reading (take (4 + t .size) (drop at (now (chunk .entry)))) ≡ done t)) ⌝ }
+{
+    if !at_rest(reader) {
+        return Read::Refused(Refusal::TooShort);
+    }
+    read_at(chunk, at)
 }
 
 // Puts a position into bytes 2 to 9.

@@ -16,12 +16,13 @@ use Rattle.telegram.specs.Telegram.{Bytes}
 use Rattle.telegram.specs.declared.Telegram.{Telegram}
 use Rattle.telegram.proofs.Outcomes.{never, refused-one}
 use Rattle.capture.specs.declared.Step.{Step}
-use Rattle.capture.specs.State.{stateOf}
-use Rattle.capture.specs.Calls.{Reply, telegram, Given, stepAs, nextAs}
-use Rattle.reader.specs.Layout.{stateIn, holding}
+use Rattle.capture.specs.State.{going, standingOf, stateOf}
+use Rattle.capture.specs.Calls.{Reply, telegram, more, Given, stepAs, nextAs}
+use Rattle.reader.specs.Layout.{positionIn, stateIn, holding}
 use Rattle.reader.specs.Interface.{returned, Called, answering, readerNext}
 use Rattle.reader.proofs.States.{state-long}
-use Rattle.reader.proofs.Few.{next-few, next-fits}
+use Rattle.reader.proofs.Few.{next-few, next-fits, next-waits}
+use Rattle.reader.proofs.Back.{held-open}
 use Rattle.reader.proofs.Exits.{next-none, next-told, called}
 use Rattle.reader.proofs.next_carried.Statement.{statement}
 use Rattle.reader.proofs.next_carried.Tie as tie
@@ -63,6 +64,24 @@ enough c = state-long _ _ (holds (c .before .before))
 kept : (c : tie.After-next-at) {r : Reply} → stepAs (c .next-at .result .step) ≡ done r
     → (c .next-at .result .reading .count ≤ 11) × (21 ≤ length (now (start c .args .reader)))
 kept c e = (few c (λ z. never (sym z ∙ e)), enough c)
+
+-- more bytes are needed: standing and position are those in memory
+waits : (c : tie.After-next-at) → stepAs (c .next-at .result .step) ≡ done more
+    → let m = now (start c .args .reader) in
+    let r = c .next-at .result .reading in
+    (r .count ≤ 11) × (21 ≤ length m) × (standingOf (r .phase) ≡ going) × (getD m 0 0 ≡ 0) × (positionIn m ≡ r .position)
+waits c e =
+    let m = now (start c .args .reader) in
+    let s = stateOf (c .before .before .before .before .read-state .result .reading) in
+    let g = c .next-at .ensures in
+    let w = next-waits _ s _ (sym (ap (λ (x : Given). x .answer) g) ∙ e) in
+    let o = held-open s m (holds (c .before .before)) (w .0) in (
+      kept c e .0,
+      enough c,
+      ap (λ (x : Given). x .state .standing) g ∙ w .1,
+      o .0,
+      o .1 ∙ sym (ap (λ (x : Given). x .state .position) g ∙ w .2),
+    )
 
 size : (c : tie.After-next-at) (t : Telegram) → stepAs (c .next-at .result .step) ≡ done (telegram t) → t .size ≤ 8
 size c t e =
@@ -125,7 +144,7 @@ next-carried-spec =
     let e = ap stepAs (t .step .given .1) in
     (kept f e .0, kept f e .1, omega (arith, size f _ e)))
     (λ c. search needs)
-    (λ c κs. let t = c .before .before in kept (t .before .before) (ap stepAs (t .enum-told .given .1)))
+    (λ c κs. let t = c .before .before in waits (t .before .before) (ap stepAs (t .enum-told .given .1)))
     (λ c. search needs)
     (λ c κs. let t = c .before .before in kept (t .before .before) (ap stepAs (t .enum-told2 .given .1)))
     (λ c. search needs)
@@ -146,13 +165,13 @@ next-carried-spec =
     let m = c .before .before in
     let t = m .before .before .before in
     let f = t .before .before in
-    silent f _ _ _ (t .enum-told .given .1) refl (m .move-on .ensures .0) (m .move-on .ensures .1))
+    silent f _ _ _ (t .enum-told .given .1) refl (m .wait .ensures .0) (m .wait .ensures .1))
     (λ c. search needs)
     (λ c.
     let m = c .before .before in
     let t = m .before .before .before in
     let f = t .before .before in
-    silent f _ _ _ (t .enum-told2 .given .1) refl (m .move-on2 .ensures .0) (m .move-on2 .ensures .1))
+    silent f _ _ _ (t .enum-told2 .given .1) refl (m .move-on .ensures .0) (m .move-on .ensures .1))
     (λ c. search needs)
     (λ c.
     let k = c .before .before in

@@ -6,15 +6,16 @@ use native.Mathlib.Omega.{arith}
 use borrow.Author.Needs.{needs}
 use denote.Ref.{now}
 use lib.ListN.{length, getD, take, drop, length-take, length-append, length-drop}
-use lib.Seq.{length-take-le, take-at}
+use lib.Seq.{take-at, take-take}
 use mir.Syntax.{w8}
 use mir.Val.{Fits}
 use Rattle.telegram.specs.Telegram.{Bytes}
 use Rattle.frame.specs.Frame.{incomplete, cutting}
 use Rattle.frame.proofs.Fronts.{bytes-append, bytes-take, bytes-drop}
-use Rattle.capture.specs.State.{stateOf, carriedIn}
+use Rattle.capture.specs.State.{stateOf, padded, carriedIn}
 use Rattle.capture.specs.Calls.{nextCut}
 use Rattle.capture.proofs.States.{left, carried-count, carried-incomplete}
+use Rattle.capture.proofs.Padding.{padded-behind}
 use Rattle.capture.proofs.Twelve.{up-to-twelve}
 use Rattle.capture.proofs.gather.next_across.Statement.{statement}
 use Rattle.capture.proofs.gather.next_across.Tie as tie
@@ -53,26 +54,33 @@ taken c =
       simp (length-append, length-take) (omega (arith, few (start c), long (start c))),
     )
 
-twelve : (c : tie.After-placed) → length (c .placed .result) ≡ 12
-twelve c = search needs
-
 -- the count of the bytes carried, and that they are unfinished
 counted : (c : tie.Start) → length (carriedIn (stateOf (c .args .carried))) ≡ c .args .carried .count
 counted c = carried-count (stateOf (c .args .carried)) (long c) (c .pre .0)
 
 asked : (c : tie.After-placed)
     → let a = start c .args in
-    let u = take (a .carried .count + c .before .before .smaller .result) (c .placed .result) in
-    (a .carried .count ≤ length u) × (cutting (take (a .carried .count) u) ≡ incomplete) × (a .at + (length u - a .carried .count) < 18446744073709551616)
+    let n = a .carried .count + c .before .before .smaller .result in
+    let r = c .placed .result in
+    (a .carried .count ≤ n) × (n ≤ 12) × (padded (take n r) ≡ r) × (cutting (take (a .carried .count) r) ≡ incomplete) × (a .at + (n - a .carried .count) < 18446744073709551616)
 asked c =
     let a = start c .args in
+    let s = stateOf (a .carried) in
     let k = c .before .before .smaller .result in
-    let u = take (a .carried .count + k) (c .placed .result) in
+    let l = drop (a .at) (now (a .chunk)) in
+    let r = c .placed .result in
     let t = taken c in
-    let n : length u ≡ a .carried .count + k = ap (λ (x : List ℕ). length x) (t .0) ∙ t .1 in
-    let e : take (a .carried .count) u ≡ carriedIn (stateOf (a .carried)) =
-    ap (λ (x : List ℕ). take (a .carried .count) x) (t .0) ∙ take-at _ _ (a .carried .count) (counted (start c)) in
-    (omega arith, ap cutting e ∙ carried-incomplete (stateOf (a .carried)) (start c .pre .0) (start c .pre .1), omega arith)
+    let q : a .at + k - a .at ≡ k = omega arith in
+    let p : r ≡ padded (carriedIn s ++ take k l) = rw q at (c .placed .ensures) ∙ padded-behind s (long (start c)) (start c .pre .0) (take k l) in
+    let e : take (a .carried .count) r ≡ carriedIn s =
+    sym (take-take (a .carried .count) (a .carried .count + k) r (omega arith)) ∙ ap (λ (x : List ℕ). take (a .carried .count) x) (t .0)
+    ∙ take-at _ _ (a .carried .count) (counted (start c)) in (
+      omega arith,
+      omega (arith, few (start c)),
+      ap padded (t .0) ∙ sym p,
+      ap cutting e ∙ carried-incomplete s (start c .pre .0) (start c .pre .1),
+      omega arith,
+    )
 
 -- each is a byte
 each : (c : tie.After-placed) → let a = start c .args in Bytes (carriedIn (stateOf (a .carried)) ++ drop (a .at) (now (a .chunk)))
@@ -83,15 +91,14 @@ each c =
 
 returns : tie.Need-returns
 returns c =
-    let p = c .before .before in
+    let p = c .before in
     let a = start p .args in
     let k = p .before .before .smaller .result in
     let s = stateOf (a .carried) in
     let l = drop (a .at) (now (a .chunk)) in
     let u = take (a .carried .count + k) (p .placed .result) in
-    let b = carriedIn s ++ take k l in
     let t = taken p in
-    let e : length u - a .carried .count ≡ k = omega (arith, ap (λ (x : List ℕ). length x) (t .0) ∙ t .1) in
+    let e : a .carried .count + k - a .carried .count ≡ k = omega arith in
     let d : length l ≡ length (now (a .chunk)) - a .at = length-drop (a .at) (now (a .chunk)) in
     let g : length (carriedIn s) ≡ a .carried .count = counted (start p) in
     c .next-in .ensures
@@ -114,7 +121,5 @@ next-across-spec =
     search needs)
     (λ c κs. simp length-take (omega (arith, few (c .before .before .before .before))))
     (λ c. record { fits = omega (arith, few (start c)) })
-    (λ c. omega (arith, twelve c, few (start c)))
-    (λ c. let t = taken (c .before) in sym (ap (λ (x : List ℕ). length x) (t .0) ∙ t .1))
-    (λ c κs. asked (c .before))
+    (λ c κs. asked c)
     returns)
