@@ -82,6 +82,14 @@ uint32_t osp_read(const uint8_t *s, size_t n, uint8_t *out, size_t room);
 uint32_t osp_build(uint32_t address, uint32_t command, const uint8_t *payload, size_t n, uint8_t *out, size_t room);
 
 /*
+ * Acknowledged commands have bit 5 (hex 20) set in their number: 24, 25, 26,
+ * 2D, 6B, 6D and 6F. One goes to one lamp, does what its plain form does, and
+ * is answered with temperature and status as they stand afterwards; no flag is
+ * cleared. A telegram of 2D is taken by both dissectors below: nothing in it
+ * says whether the host sent it, with a group word, or the lamp answered.
+ */
+
+/*
  * The command dissector. Refusals 1 to 8, then 9.
  * Writes the command, the cast (OSP_EVERYONE, OSP_ONE, OSP_GROUP), its value
  * (2 bytes, high byte first), the payload size and the payload.

@@ -46,6 +46,7 @@ module _ (s : List ℕ) (t : Telegram) where
 pub record Replied (s : List ℕ) (t : Telegram) (a : Reply) : Type 0 where
   pub row : Row
   pub known : rowOf (t .command) ≡ done row
+  pub some : eqb (row .answer) 0 ≡ false
   pub size : t .size ≡ row .answer
   pub reply : record { address = t .address .0; message = numbered (t .command) (fieldsBy (answerLayoutOf (t .command)) (payloadIn s (t .size))) } ≡ a
 
@@ -60,6 +61,7 @@ replied s t a e =
     record {
       row = r;
       known = g .1 .0;
+      some = p₁ .0;
       size = eqb-true (t .size) (r .answer) (not-false _ (p₃ .0));
       reply = done-one (p₃ .1);
     }

@@ -1,4 +1,5 @@
 pub mod Widths
 pub mod Answering
 pub mod RoundTrip
+pub mod Either
 pub mod AsMarked

@@ -1,4 +1,5 @@
--- Document 01, "Commands", on answers: their values and layouts, and what the answer dissector gives.
+-- Document 01, "Commands", on answers: their values and layouts, and what the answer dissector gives. Document 02, request 02: answers
+-- to acknowledged commands.
 -- Assumes nothing.
 use Prim.Native.Nat.{ℕ}
 use mathlib.Core.Bool.{Bool, cond, not, _||_}
@@ -12,11 +13,23 @@ use Rattle.table.specs.declared.Row.{Row}
 use Rattle.command.specs.Fields.{Layout, octets, word, long, pwm, fieldsBy, payloadBy, pwmFields}
 use Rattle.command.specs.Commands.{Message, numbered, partsBy}
 use Rattle.command.specs.declared.Parts.{Parts}
+use Rattle.answer.specs.declared.Acknowledged.{Acknowledged}
+use Rattle.answer.specs.declared.Acknowledged.the-variants.{GoSleep, GoActive, GoDeepSleep, SetMult, SetThresholds, SetSetup, SetPwm}
 use Rattle.answer.specs.declared.Answer.{Answer}
-use Rattle.answer.specs.declared.Answer.the-variants.{InitBidir, InitLoop, Identity, Mask, Status, TempStatus, Temp, Thresholds, Setup, Words}
+use Rattle.answer.specs.declared.Answer.the-variants.{InitBidir, InitLoop, Identity, Mask, Status, TempStatus, Temp, Thresholds, Setup, Words, Acknowledgement}
 use Rattle.answer.specs.declared.Answered.{Answered}
 use Rattle.answer.specs.declared.AnswerDissection.{AnswerDissection}
 use Rattle.answer.specs.declared.AnswerDissection.the-variants.{Accepted, Refused}
+
+-- The number of each acknowledged command.
+abbrev pub acknowledgedNumber : Acknowledged → ℕ
+acknowledgedNumber GoSleep = 0x24
+acknowledgedNumber GoActive = 0x25
+acknowledgedNumber GoDeepSleep = 0x26
+acknowledgedNumber SetMult = 0x2D
+acknowledgedNumber SetThresholds = 0x6B
+acknowledgedNumber SetSetup = 0x6D
+acknowledgedNumber SetPwm = 0x6F
 
 -- Each answer, with its command's number and the values that it carries.
 abbrev pub answerMessageOf : Answer → Message
@@ -30,6 +43,7 @@ answerMessageOf (Temp temperature) = numbered 0x48 (temperature ∷ [])
 answerMessageOf (Thresholds x y z) = numbered 0x4A (x ∷ y ∷ z ∷ [])
 answerMessageOf (Setup x) = numbered 0x4C (x ∷ [])
 answerMessageOf (Words r g b) = numbered 0x4E (pwmFields r g b)
+answerMessageOf (Acknowledgement c temperature status) = numbered (acknowledgedNumber c) (temperature ∷ status ∷ [])
 
 -- An answer to READMULT holds one word, to IDENTIFY one number, to READPWM three PWM words.
 unfoldable pub answerLayoutOf : ℕ → Layout

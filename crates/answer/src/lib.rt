@@ -8,13 +8,25 @@ use telegram::Refusal;
 use telegram::Telegram;
 ghost use mathlib.Core.Path.{_≡_};
 ghost use Prim.Native.Nat.{_+_, _*_, _≤_, _<_};
+ghost use mathlib.Core.Bool.{true};
 ghost use mathlib.Core.List.{[], _∷_};
 ghost use lib.ListN.{length};
 ghost use Rattle.telegram.specs.Numbers.{done};
-ghost use Rattle.table.specs.Table.{answerSizeOf};
+ghost use Rattle.table.specs.Table.{answerSizeOf, acknowledged};
 ghost use Rattle.command.specs.Fields.{octets, long as long_layout, fieldsBy};
 ghost use Rattle.command.specs.Commands.{numbered, partsBy};
-ghost use Rattle.answer.specs.Answers.{answerLayoutOf, answerMessageOf, answerAddress, answerLaidOut, replyAs, namingAnswer, dissectingAnswer};
+ghost use Rattle.answer.specs.Answers.{answerLayoutOf, acknowledgedNumber, answerMessageOf, answerAddress, answerLaidOut, replyAs, namingAnswer, dissectingAnswer};
+
+// The acknowledged commands, whose answers are alike.
+pub enum Acknowledged {
+    GoSleep,
+    GoActive,
+    GoDeepSleep,
+    SetMult,
+    SetThresholds,
+    SetSetup,
+    SetPwm,
+}
 
 // The answers to the commands that have one, with their values.
 pub enum Answer {
@@ -28,6 +40,7 @@ pub enum Answer {
     Thresholds(u8, u8, u8),
     Setup(u8),
     Words(Pwm, Pwm, Pwm),
+    Acknowledgement(Acknowledged, u8, u8),
 }
 
 // A dissected answer, with the address of the lamp that gave it.
@@ -49,6 +62,38 @@ fn long(high: u16, low: u16) -> u32
     high as u32 * 65536 + low as u32
 }
 
+// The acknowledged command of a number.
+fn acknowledged_of(n: u8) -> Acknowledged
+    requires { ⌜ acknowledged n ≡ true ⌝ }
+    ensures { λ r. ⌜ acknowledgedNumber r ≡ n ⌝ }
+{
+    match n {
+        0x24 => Acknowledged::GoSleep,
+        0x25 => Acknowledged::GoActive,
+        0x26 => Acknowledged::GoDeepSleep,
+        0x2D => Acknowledged::SetMult,
+        0x6B => Acknowledged::SetThresholds,
+        0x6D => Acknowledged::SetSetup,
+        // 6F, the only one that is left
+        _ => Acknowledged::SetPwm,
+    }
+}
+
+// The number of an acknowledged command.
+fn number_of(c: Acknowledged) -> u8
+    ensures { λ r. ⌜ r ≡ acknowledgedNumber c ⌝ }
+{
+    match c {
+        Acknowledged::GoSleep => 0x24,
+        Acknowledged::GoActive => 0x25,
+        Acknowledged::GoDeepSleep => 0x26,
+        Acknowledged::SetMult => 0x2D,
+        Acknowledged::SetThresholds => 0x6B,
+        Acknowledged::SetSetup => 0x6D,
+        Acknowledged::SetPwm => 0x6F,
+    }
+}
+
 // The answer of a number that has answers, with the values in its bytes.
 fn answer_of(n: u8, p: &[u8]) -> Answer
     requires { ⌜ (answerSizeOf n ≡ done (length (now p))) × (0 < length (now p)) ⌝ }
@@ -59,6 +104,7 @@ fn answer_of(n: u8, p: &[u8]) -> Answer
         0x03 => Answer::InitLoop(p[0], p[1]),
         0x07 => Answer::Identity(long(bits::word(p[0], p[1]), bits::word(p[2], p[3]))),
         0x0C => Answer::Mask(bits::word(p[0], p[1])),
+        0x40 => Answer::Status(p[0]),
         0x42 => Answer::TempStatus(p[0], p[1]),
         0x48 => Answer::Temp(p[0]),
         0x4A => Answer::Thresholds(p[0], p[1], p[2]),
@@ -68,8 +114,8 @@ fn answer_of(n: u8, p: &[u8]) -> Answer
             command::pwm_from(p[2], p[3]),
             command::pwm_from(p[4], p[5]),
         ),
-        // 40, the only number with answers that is left
-        _ => Answer::Status(p[0]),
+        // the numbers with answers that are left
+        _ => Answer::Acknowledgement(acknowledged_of(n), p[0], p[1]),
     }
 }
 
@@ -171,5 +217,8 @@ pub fn answer_parts(a: Answer) -> Parts
         Answer::Thresholds(x, y, z) => command::three_bytes(0x4A, x, y, z),
         Answer::Setup(x) => command::one_byte(0x4C, x),
         Answer::Words(r, g, b) => command::pwm_parts(0x4E, r, g, b),
+        Answer::Acknowledgement(c, temperature, status) => {
+            two_bytes(number_of(c), temperature, status)
+        }
     }
 }

@@ -97,7 +97,15 @@ fn colour_at(line: &[u8], at: usize) -> Colour {
     Colour::Of(pwm, w.to)
 }
 
-fn colours_at(line: &[u8], at: usize) -> Composition {
+// The command that sets three PWM words, acknowledged or not.
+fn with_colours(number: u8, red: Pwm, green: Pwm, blue: Pwm) -> Command {
+    if table::is_acknowledged(number) {
+        return Command::SetPwmSr(red, green, blue);
+    }
+    Command::SetPwm(red, green, blue)
+}
+
+fn colours_at(line: &[u8], at: usize, number: u8) -> Composition {
     let first = colour_at(line, at);
     let Colour::Of(red, second_at) = first else {
         return Composition::Wrong;
@@ -114,7 +122,7 @@ fn colours_at(line: &[u8], at: usize) -> Composition {
     if rest.from < rest.to {
         return Composition::Wrong;
     }
-    Composition::Done(Command::SetPwm(red, green, blue))
+    Composition::Done(with_colours(number, red, green, blue))
 }
 
 // The values as the payload's bytes.
@@ -133,9 +141,9 @@ fn bytes_at(line: &[u8], at: usize, number: u8) -> Composition {
 
 fn command_at(line: &[u8], at: usize, number: u8) -> Composition {
     let w = text::reading::word_at(line, at);
-    if number == 0x4F {
+    if table::plain_number(number) == 0x4F {
         if mode_of(word_in(line, w)) < 2 {
-            return colours_at(line, at);
+            return colours_at(line, at, number);
         }
     }
     bytes_at(line, at, number)

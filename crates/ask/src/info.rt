@@ -6,8 +6,8 @@ use words::Named;
 use words::Told;
 use words::values_told;
 
-// Appends a form: the start of a row of the list, its end; the start of a block, its payload with and without an answer; the words for
-// casts.
+// Appends a form: the start of a row of the list, its end; the start of a block, an answer without a payload, a payload without an answer,
+// both; the words for casts; a status request that can be made, is made, cannot be made.
 fn put_told(out: &mut [u8], at: usize, book: &[u8], told: Told, s: &[u8]) -> usize {
     let values = told.values;
     words::put_form(
@@ -20,9 +20,13 @@ fn put_told(out: &mut [u8], at: usize, book: &[u8], told: Told, s: &[u8]) -> usi
 |TELEGRAM %b: %c\nDESCRIPTION: %t\nCASTING    : %;
 |\nPAYLOAD    : %d; response %d%t\n%;
 |\nPAYLOAD    : %d%t; response none\n%;
+|\nPAYLOAD    : %d%t; response %d (temp stat)\n%;
 |one group everyone%>%;
 |one%>%;
 |first address, 000%>%;
+|STATUS REQ : yes (%b %c)\n%;
+|STATUS REQ : set (%b %c is without)\n%;
+|STATUS REQ : no (no sr possible)\n%;
 ",
             told.row as usize,
         ),
@@ -35,9 +39,9 @@ fn put_told(out: &mut [u8], at: usize, book: &[u8], told: Told, s: &[u8]) -> usi
 fn casts_told(row: Row, width: u64) -> Told {
     let casts = row.casts;
     match casts {
-        Casts::All => values_told(5, width, 0, 0, 0),
-        Casts::Single => values_told(6, width, 0, 0, 0),
-        Casts::First => values_told(7, width, 0, 0, 0),
+        Casts::All => values_told(6, width, 0, 0, 0),
+        Casts::Single => values_told(7, width, 0, 0, 0),
+        Casts::First => values_told(8, width, 0, 0, 0),
     }
 }
 
@@ -68,13 +72,20 @@ answers the setup byte
 stores the setup byte
 answers the three PWM words
 stores the three PWM words, red, green and blue, each a mode and a duty
+state SLEEP, then answers temperature and status byte, clearing no flag
+state ACTIVE, then answers temperature and status byte, clearing no flag
+state DEEPSLEEP, then answers temperature and status byte, clearing no flag
+stores the group word, then answers temperature and status byte, clearing no flag
+stores the three threshold bytes, then answers temperature and status byte, clearing no flag
+stores the setup byte, then answers temperature and status byte, clearing no flag
+stores the three PWM words, then answers temperature and status byte, clearing no flag
 ",
             words::row_of(number) as usize,
         ),
     )
 }
 
-// Appends a form with the bytes of a payload or an answer by name; a command has only one of the two.
+// Appends a form with the bytes of a payload by name, or where there is none those of an answer.
 fn put_bytes(out: &mut [u8], at: usize, book: &[u8], told: Told, number: u8) -> usize {
     put_told(
         out,
@@ -101,6 +112,13 @@ fn put_bytes(out: &mut [u8], at: usize, book: &[u8], told: Told, number: u8) -> 
  (setup)
  (red1 red0 grn1 grn0 blu1 blu0)
  (red1 red0 grn1 grn0 blu1 blu0)
+ (temp stat)
+ (temp stat)
+ (temp stat)
+ (mask1 mask0)
+ (cycle low high)
+ (setup)
+ (red1 red0 grn1 grn0 blu1 blu0)
 ",
             words::row_of(number) as usize,
         ),
@@ -110,7 +128,7 @@ fn put_bytes(out: &mut [u8], at: usize, book: &[u8], told: Told, number: u8) -> 
 // Appends the row of a command.
 fn put_row(out: &mut [u8], at: usize, book: &[u8], number: u8, row: Row) -> usize {
     let n = number as u64;
-    let a = put_told(out, at, book, values_told(0, n, n, 17, 0), b"");
+    let a = put_told(out, at, book, values_told(0, n, n, 20, 0), b"");
     let b = put_told(out, a, book, casts_told(row, 19), b"");
     let sizes = values_told(1, row.payload as u64, row.answer as u64, 0, 0);
     put_described(out, b, book, sizes, number)
@@ -140,25 +158,56 @@ fn print_all(book: &[u8], err: i32) -> u8 {
     let a = text::put(
         &mut page,
         0,
-        b"hex name         casts              payload answer what it does\n",
+        b"hex name            casts              payload answer what it does\n",
     );
     let n = put_rows(&mut page, a, book);
     complaint::finish(err, complaint::INFO, &page, n, 0)
 }
 
-// What the payload and the answer are: without an answer, the first value stands alone.
+// The form for a payload and an answer of so many bytes.
+fn payload_row(payload: usize, answer: usize) -> u8 {
+    if answer == 0 {
+        return 4;
+    }
+    if payload == 0 { 3 } else { 5 }
+}
+
+// What the payload and the answer are; the answer's size stands before the names of bytes, or behind them.
 fn payload_told(row: Row) -> Told {
-    let payload = row.payload as u64;
     let answer = row.answer as u64;
-    values_told(if answer == 0 { 4 } else { 3 }, payload, answer, 0, 0)
+    values_told(
+        payload_row(row.payload, row.answer),
+        row.payload as u64,
+        answer,
+        answer,
+        0,
+    )
+}
+
+// A form with the number of a command and its name.
+fn command_told(row: u8, number: u8) -> Told {
+    let n = number as u64;
+    values_told(row, n, n, 0, 0)
+}
+
+// Whether a status can be requested with a command, by bit 5 of its number.
+fn request_told(number: u8) -> Told {
+    let requesting = number | 0x20;
+    if table::is_acknowledged(number) {
+        return command_told(10, table::plain_number(number));
+    }
+    if table::is_acknowledged(requesting) {
+        return command_told(9, requesting);
+    }
+    command_told(11, number)
 }
 
 // Appends the block of a command.
 fn put_block(out: &mut [u8], book: &[u8], number: u8, row: Row) -> usize {
-    let n = number as u64;
-    let a = put_described(out, 0, book, values_told(2, n, n, 0, 0), number);
+    let a = put_described(out, 0, book, command_told(2, number), number);
     let b = put_told(out, a, book, casts_told(row, 0), b"");
-    put_bytes(out, b, book, payload_told(row), number)
+    let c = put_bytes(out, b, book, payload_told(row), number);
+    put_told(out, c, book, request_told(number), b"")
 }
 
 fn print_one(book: &[u8], number: u8, err: i32) -> u8 {

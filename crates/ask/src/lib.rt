@@ -42,11 +42,12 @@ The bytes of one telegram in hex, as in: osp fields A0 25 02 6B 50 7F
 Prints its fields. A refused telegram has its number, the reason, and the failed field marked.
 |osp build ADDRESS COMMAND [VALUES]
 ADDRESS: hex (001 is a lamp, 000 everyone, 3F0 group 0), everyone, or group N.
-VALUES: the payload's bytes in hex; setpwm also takes red, green and blue as night DUTY or day DUTY (0 to 32767).
+VALUES: the payload's bytes in hex; setpwm and setpwm_sr also take red, green and blue as night DUTY or day DUTY (0 to 32767).
   osp build 001 initbidir
   osp build everyone goactive
   osp build 001 setpwm night 1000 day 2000 night 0
   osp build group 3 setsetup 13
+  osp build 001 goactive_sr
 |osp info [COMMAND]
 Number, casts, payload and answer of a command and what it does, as in: osp info setpwm
 |osp replay --lamps N [--setup HH] [--thresholds HH HH HH] [--raw] [--quiet] [--json] FILE

@@ -122,11 +122,11 @@ visit-answers d n t fits p x l = go (isInit k) refl (t .cast) fits
       where
         found : (b : Bool) → eqb (x .address .0) (a .0) ≡ b
             → Ending (Answers (record { message = t .message; cast = One a }) n) p
-            (cond b (ends (acted d m x) (done (answerFrom (a .0) k (answered k x)))) (onward x))
+            (cond b (ends (acted d m x) (done (answerFrom (a .0) k (answered d m x)))) (onward x))
         found true e =
             let r = f a refl in
-            answers (record { message = m; cast = One a }) n p (acted d m x) (a .0) (answered k x)
-            (lamp-address k (a .0) (r .0) (r .1 .0)) (answered-sized k x)
+            answers (record { message = m; cast = One a }) n p (acted d m x) (a .0) (answered d m x)
+            (lamp-address k (a .0) (r .0) (r .1 .0)) (answered-sized d m x)
             (λ j s. acted-kept (λ (c : Address). a .0 ≡ c .0) d m x (λ z. absurd (reset-silent k j s z)) (sym (eqb-true _ _ e)))
             (λ plain. refl) (λ j. absurd (false≢true (sym i ∙ j)))
         found false e = tt

@@ -103,7 +103,7 @@ module _ (mem : List ℕ) (b : Bytes mem) (v : Valid mem (decode mem)) where
 
     pub unicast-found : (room : List ℕ) {mem′ room′ p : List ℕ} {r : Outcome ℕ}
         → mem′ ≡ withLamp mem (q .0) (acted (decode mem .defaults) m (lampAt mem (q .0)))
-        → p ≡ answered (m .number) (lampAt mem (q .0))
+        → p ≡ answered (decode mem .defaults) m (lampAt mem (q .0))
         → r ≡ counted (done (answerFrom (a .0) (m .number) p)) → room′ ≡ front (answerFrom (a .0) (m .number) p) room
         → Walks mem room (reachedIn mem m (One a)) r mem′ room′
     unfolding reachedIn decode
@@ -114,10 +114,10 @@ module _ (mem : List ℕ) (b : Bytes mem) (v : Valid mem (decode mem)) where
         let w = walk-found d m a (lampsIn n mem) q e y .1 in
         let g = getD-lampsIn (q .0) n mem y found-in in
         walks-done mem room w
-        (er ∙ ap (λ (p : List ℕ). counted (done (answerFrom (a .0) (m .number) p))) (ep ∙ ap (answered (m .number)) (sym g)))
+        (er ∙ ap (λ (p : List ℕ). counted (done (answerFrom (a .0) (m .number) p))) (ep ∙ ap (answered d m) (sym g)))
         (em ∙ ap (withLamp mem (q .0)) (ap (acted d m) (sym g))
         ∙ hold-set mem b (v .room) (q .0) (acted d m (getD (lampsIn n mem) (q .0) y)) found-in)
-        (eo ∙ ap (λ (p : List ℕ). front (answerFrom (a .0) (m .number) p) room) (ep ∙ ap (answered (m .number)) (sym g)))
+        (eo ∙ ap (λ (p : List ℕ). front (answerFrom (a .0) (m .number) p) room) (ep ∙ ap (answered d m) (sym g)))
 
   -- A refusal other than 5 changes nothing; 5 sets CE on the lamp at place 0.
   pub refuse-other : (n : ℕ) (room : List ℕ) → n ≢ 5 → Walks mem room (refusedIn mem n) (refused n) mem room

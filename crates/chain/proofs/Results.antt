@@ -3,7 +3,7 @@
 use Prim.Native.Nat.{ℕ, suc, _+_, _-_}
 use mathlib.Core.Path.{_≡_, refl, sym, ap}
 use mathlib.Core.Logic.{inl, inr}
-use mathlib.Core.Bool.{Bool, true, false, cond, not}
+use mathlib.Core.Bool.{Bool, true, false, cond, not, _&&_}
 use mathlib.Core.List.{List, [], _∷_}
 use native.Mathlib.Omega.{arith}
 use lib.Dec.{eqb, leb, ltb}
@@ -68,6 +68,8 @@ row-answerable n =
     (either P (eqb n 0x07) (well _ refl)
     (either P (eqb n 0x0C) (well _ refl)
     (either P (eqb n 0x0D) (well _ refl)
+    (either P (leb 0x24 n && leb n 0x26) (well _ refl)
+    (either P (eqb n 0x2D) (well _ refl)
     (either P (eqb n 0x40) (well _ refl)
     (either P (eqb n 0x42) (well _ refl)
     (either P (eqb n 0x48) (well _ refl)
@@ -76,7 +78,10 @@ row-answerable n =
     (either P (eqb n 0x4C) (well _ refl)
     (either P (eqb n 0x4D) (well _ refl)
     (either P (eqb n 0x4E) (well _ refl)
-    (either P (eqb n 0x4F) (well _ refl) (told UnknownCommand refl)))))))))))))))
+    (either P (eqb n 0x4F) (well _ refl)
+    (either P (eqb n 0x6B) (well _ refl)
+    (either P (eqb n 0x6D) (well _ refl)
+    (either P (eqb n 0x6F) (well _ refl) (told UnknownCommand refl))))))))))))))))))))
 
 destination-answerable : (a : ℕ) → Answerable (destination a)
 unfolding destination

@@ -73,7 +73,7 @@ module _ (a : ℕ) (rule : Lamp → Lamp) (tell : Lamp → Outcome (List ℕ)) w
 -- Unicast: nobody has the address, or the lamp at the place that was found takes the telegram and answers.
 module _ (d : Defaults) (m : Message) (a : Address) (xs : List Lamp) where
   abbrev answers : Lamp → Outcome (List ℕ)
-  answers l = done (answerFrom (a .0) (m .number) (answered (m .number) l))
+  answers l = done (answerFrom (a .0) (m .number) (answered d m l))
 
   pub walk-nobody : (p : ℕ) → placeFrom p (a .0) xs ≡ Nobody → walk (reaching d m (One a)) p xs ≡ record { lamps = xs; outcome = done [] }
   walk-nobody p e = rw e at (stops (a .0) (acted d m) answers p xs)
@@ -83,7 +83,7 @@ module _ (d : Defaults) (m : Message) (a : Address) (xs : List Lamp) where
       × (walk (reaching d m (One a)) 0 xs
       ≡ record {
         lamps = set xs (q .0) (acted d m (getD xs (q .0) y));
-        outcome = done (answerFrom (a .0) (m .number) (answered (m .number) (getD xs (q .0) y)));
+        outcome = done (answerFrom (a .0) (m .number) (answered d m (getD xs (q .0) y)));
       })
   walk-found q e y =
       let r = rw e at (stops (a .0) (acted d m) answers 0 xs) in

@@ -56,7 +56,8 @@ fn thresholds_at(s: &[u8], i: usize) -> Thresholds
     }
 }
 
-// Does what a command says to the lamp at a place. Each arm loads and stores by itself: the compiler then stores only what changes.
+// Does what a command says to the lamp at a place, an acknowledged one what its plain form says. Each arm loads and stores by itself: the
+// compiler then stores only what changes.
 fn alter(mem: &mut [u8], p: Place, d: Defaults, n: u8, payload: &[u8])
     requires { ⌜ (slotAt (p .0) + slotSize ≤ length (now mem)) × (sizeRight n (length (now payload)) ≡ true) ⌝ }
     ensures { λ _. ⌜ now (mem .exit) ≡ withLamp (now (mem .entry)) (p .0) (changed d (commandIn n (now (payload .entry))) (lampAt (now (mem .entry)) (p .0))) ⌝ }
@@ -68,29 +69,29 @@ fn alter(mem: &mut [u8], p: Place, d: Defaults, n: u8, payload: &[u8])
             l.flags = lamp::no_flags();
             store_lamp(mem, p, l);
         }
-        0x04 => store_lamp(mem, p, lamp::with_state(load_lamp(mem, p), State::Sleep)),
-        0x05 => store_lamp(mem, p, lamp::with_state(load_lamp(mem, p), State::Active)),
-        0x06 => store_lamp(
+        0x04 | 0x24 => store_lamp(mem, p, lamp::with_state(load_lamp(mem, p), State::Sleep)),
+        0x05 | 0x25 => store_lamp(mem, p, lamp::with_state(load_lamp(mem, p), State::Active)),
+        0x06 | 0x26 => store_lamp(
             mem,
             p,
             lamp::with_state(load_lamp(mem, p), State::DeepSleep),
         ),
-        0x0D => {
+        0x0D | 0x2D => {
             let mut l = load_lamp(mem, p);
             l.groups = word_at(payload, 0);
             store_lamp(mem, p, l);
         }
-        0x4B => {
+        0x4B | 0x6B => {
             let mut l = load_lamp(mem, p);
             l.thresholds = thresholds_at(payload, 0);
             store_lamp(mem, p, l);
         }
-        0x4D => {
+        0x4D | 0x6D => {
             let mut l = load_lamp(mem, p);
             l.setup = payload[0];
             store_lamp(mem, p, l);
         }
-        0x4F => {
+        0x4F | 0x6F => {
             let mut l = load_lamp(mem, p);
             l.pwm = words_at(payload, 0);
             store_lamp(mem, p, l);

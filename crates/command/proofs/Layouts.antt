@@ -10,7 +10,7 @@ use lib.ListN.{length, getD}
 use borrow.Author.Tests.{le-leb}
 use Rattle.checksum.proofs.Below.{below, at}
 use Rattle.telegram.specs.Telegram.{Bytes}
-use Rattle.table.specs.Table.{rowOf, sizeRight}
+use Rattle.table.specs.Table.{rowOf, acknowledged, plainNumber, sizeRight}
 use Rattle.command.specs.Fields.{Layout, octets, word, long, pwm, wordAt, wordBytes, pwmBytes, fieldsBy, payloadBy, dutiesInRange, modeOf, pwmFields, layoutOf}
 use Rattle.command.specs.Commands.{numbered}
 use Rattle.command.specs.declared.Pwm.{Pwm}
@@ -65,7 +65,7 @@ wide layout right t n h p l e =
     (at (sizes n) 9 (at (λ (m : ℕ). below (sizes m) 9) 128 t n (omega arith)) (length p) (omega arith)))
 
 pub command-wide : (n : ℕ) → n ≤ 127 → (p : List ℕ) → length p ≤ 8 → sizeRight n (length p) ≡ true → Wide (layoutOf n) p
-unfolding as-wide layoutOf rowOf
+unfolding as-wide layoutOf rowOf acknowledged plainNumber
 command-wide = wide layoutOf sizeRight tt
 
 word-lt : (p : List ℕ) → Bytes p → (i : ℕ) → wordAt p i < 65536

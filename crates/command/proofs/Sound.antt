@@ -11,12 +11,12 @@ use lib.Dec.{eqb, leb, lit≤}
 use lib.ListN.{length, getD}
 use borrow.Author.Tests.{leb-true}
 use Rattle.telegram.specs.Telegram.{listed}
-use Rattle.table.specs.Table.{rowOf, sizeRight}
+use Rattle.table.specs.Table.{rowOf, acknowledged, plainNumber, sizeRight}
 use Rattle.command.specs.Fields.{pwm, layoutOf, fieldsBy, payloadBy, dutiesInRange, modeOf, pwmFields}
 use Rattle.command.specs.Commands.{Message, messageOf, payloadOf}
 use Rattle.command.specs.declared.Pwm.{Pwm}
 use Rattle.command.specs.declared.Command.{Command}
-use Rattle.command.specs.declared.Command.the-variants.{Reset, ClearError, InitBidir, InitLoop, GoSleep, GoActive, GoDeepSleep, Identify, ReadMult, SetMult, ReadStatus, ReadTempStatus, ReadTemp, ReadThresholds, SetThresholds, ReadSetup, SetSetup, ReadPwm, SetPwm}
+use Rattle.command.specs.declared.Command.the-variants.{Reset, ClearError, InitBidir, InitLoop, GoSleep, GoActive, GoDeepSleep, Identify, ReadMult, SetMult, ReadStatus, ReadTempStatus, ReadTemp, ReadThresholds, SetThresholds, ReadSetup, SetSetup, ReadPwm, SetPwm, GoSleepSr, GoActiveSr, GoDeepSleepSr, SetMultSr, SetThresholdsSr, SetSetupSr, SetPwmSr}
 use Rattle.telegram.proofs.Building.{listed-le}
 use Rattle.table.proofs.Both.{and-left, and-right}
 
@@ -47,7 +47,14 @@ command-in m =
     (cond (eqb n 0x4C) ReadSetup
     (cond (eqb n 0x4D) (SetSetup (getD f 0 0))
     (cond (eqb n 0x4E) ReadPwm
-    (SetPwm (pwm-in f 0 1) (pwm-in f 2 3) (pwm-in f 4 5)))))))))))))))))))
+    (cond (eqb n 0x4F) (SetPwm (pwm-in f 0 1) (pwm-in f 2 3) (pwm-in f 4 5))
+    (cond (eqb n 0x24) GoSleepSr
+    (cond (eqb n 0x25) GoActiveSr
+    (cond (eqb n 0x26) GoDeepSleepSr
+    (cond (eqb n 0x2D) (SetMultSr (getD f 0 0))
+    (cond (eqb n 0x6B) (SetThresholdsSr (getD f 0 0) (getD f 1 0) (getD f 2 0))
+    (cond (eqb n 0x6D) (SetSetupSr (getD f 0 0))
+    (SetPwmSr (pwm-in f 0 1) (pwm-in f 2 3) (pwm-in f 4 5))))))))))))))))))))))))))
 
 mode-back : (b : Bool) → eqb (cond b 1 0) 1 ≡ b
 mode-back true = refl
@@ -84,7 +91,7 @@ pwm-forth r g b h =
     (word-forth, mode-forth r, mode-forth g, mode-forth b, duty-forth r hr, duty-forth g hg, duty-forth b hb)
 
 pub sound : (c : Command) → Sound c (messageOf c)
-unfolding layoutOf rowOf command-in pwm-in
+unfolding layoutOf rowOf acknowledged plainNumber command-in pwm-in
 sound Reset = record { number = lit≤ tt; length-listed = refl; size = refl; back = λ h. refl; same = refl }
 sound ClearError = record { number = lit≤ tt; length-listed = refl; size = refl; back = λ h. refl; same = refl }
 sound InitBidir = record { number = lit≤ tt; length-listed = refl; size = refl; back = λ h. refl; same = refl }
@@ -104,6 +111,13 @@ sound ReadSetup = record { number = lit≤ tt; length-listed = refl; size = refl
 sound (SetSetup x) = record { number = lit≤ tt; length-listed = refl; size = refl; back = λ h. refl; same = refl }
 sound ReadPwm = record { number = lit≤ tt; length-listed = refl; size = refl; back = λ h. refl; same = refl }
 sound (SetPwm r g b) = record { number = lit≤ tt; length-listed = refl; size = refl; back = pwm-forth r g b; same = simp (mode-back (r .day), mode-back (g .day), mode-back (b .day)) }
+sound GoSleepSr = record { number = lit≤ tt; length-listed = refl; size = refl; back = λ h. refl; same = refl }
+sound GoActiveSr = record { number = lit≤ tt; length-listed = refl; size = refl; back = λ h. refl; same = refl }
+sound GoDeepSleepSr = record { number = lit≤ tt; length-listed = refl; size = refl; back = λ h. refl; same = refl }
+sound (SetMultSr w) = record { number = lit≤ tt; length-listed = refl; size = refl; back = λ h. ap (λ (x : ℕ). x ∷ []) (word-forth w); same = refl }
+sound (SetThresholdsSr x y z) = record { number = lit≤ tt; length-listed = refl; size = refl; back = λ h. refl; same = refl }
+sound (SetSetupSr x) = record { number = lit≤ tt; length-listed = refl; size = refl; back = λ h. refl; same = refl }
+sound (SetPwmSr r g b) = record { number = lit≤ tt; length-listed = refl; size = refl; back = pwm-forth r g b; same = simp (mode-back (r .day), mode-back (g .day), mode-back (b .day)) }
 
 -- No payload is longer than 8 bytes.
 pub command-short : (c : Command) → length (payloadOf (messageOf c)) ≤ 8

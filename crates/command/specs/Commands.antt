@@ -1,4 +1,5 @@
--- Document 01, "Commands": what the command dissector gives and what the command builder makes.
+-- Document 01, "Commands": what the command dissector gives and what the command builder makes. Document 02, request 02: acknowledged
+-- commands.
 -- Assumes nothing.
 use Prim.Native.Nat.{ℕ, _-_}
 use mathlib.Core.Bool.{not}
@@ -13,7 +14,7 @@ use Rattle.table.specs.declared.Row.{Row}
 use Rattle.table.specs.declared.Cast.{Cast}
 use Rattle.command.specs.Fields.{Layout, layoutOf, fieldsBy, payloadBy, dutiesInRange, pwmFields}
 use Rattle.command.specs.declared.Command.{Command}
-use Rattle.command.specs.declared.Command.the-variants.{Reset, ClearError, InitBidir, InitLoop, GoSleep, GoActive, GoDeepSleep, Identify, ReadMult, SetMult, ReadStatus, ReadTempStatus, ReadTemp, ReadThresholds, SetThresholds, ReadSetup, SetSetup, ReadPwm, SetPwm}
+use Rattle.command.specs.declared.Command.the-variants.{Reset, ClearError, InitBidir, InitLoop, GoSleep, GoActive, GoDeepSleep, Identify, ReadMult, SetMult, ReadStatus, ReadTempStatus, ReadTemp, ReadThresholds, SetThresholds, ReadSetup, SetSetup, ReadPwm, SetPwm, GoSleepSr, GoActiveSr, GoDeepSleepSr, SetMultSr, SetThresholdsSr, SetSetupSr, SetPwmSr}
 use Rattle.command.specs.declared.Parts.{Parts}
 use Rattle.command.specs.declared.Composed.{Composed}
 use Rattle.command.specs.declared.Composed.the-variants.{Accepted as Command-accepted, Refused as Command-refused}
@@ -53,6 +54,13 @@ messageOf ReadSetup = numbered 0x4C []
 messageOf (SetSetup x) = numbered 0x4D (x ∷ [])
 messageOf ReadPwm = numbered 0x4E []
 messageOf (SetPwm r g b) = numbered 0x4F (pwmFields r g b)
+messageOf GoSleepSr = numbered 0x24 []
+messageOf GoActiveSr = numbered 0x25 []
+messageOf GoDeepSleepSr = numbered 0x26 []
+messageOf (SetMultSr mask) = numbered 0x2D (mask ∷ [])
+messageOf (SetThresholdsSr x y z) = numbered 0x6B (x ∷ y ∷ z ∷ [])
+messageOf (SetSetupSr x) = numbered 0x6D (x ∷ [])
+messageOf (SetPwmSr r g b) = numbered 0x6F (pwmFields r g b)
 
 -- A dissected telegram names the command, its cast and its fields.
 pub record Sent : Type 0 where

@@ -5,6 +5,7 @@ use mathlib.Core.Bool.{Bool, true, cond, _&&_}
 use mathlib.Core.List.{List, [], _∷_, _++_}
 use lib.Dec.{eqb, leb}
 use lib.ListN.{getD}
+use Rattle.table.specs.Table.{plainNumber}
 use Rattle.command.specs.declared.Pwm.{Pwm}
 
 -- A word of two bytes, high byte first.
@@ -57,6 +58,7 @@ dutiesInRange word f = true
 dutiesInRange long f = true
 dutiesInRange pwm f = leb (getD f 1 0) 32767 && (leb (getD f 3 0) 32767 && leb (getD f 5 0) 32767)
 
--- SETMULT holds one word, SETPWM three PWM words, any other command each byte by itself.
+-- SETMULT holds one word, SETPWM three PWM words, any other plain command each byte by itself; an acknowledged command holds what its
+-- plain form does.
 unfoldable pub layoutOf : ℕ → Layout
-layoutOf n = cond (eqb n 0x0D) word (cond (eqb n 0x4F) pwm octets)
+layoutOf n = cond (eqb (plainNumber n) 0x0D) word (cond (eqb (plainNumber n) 0x4F) pwm octets)

@@ -1,7 +1,9 @@
 // Commands: document 01, "Commands".
+mod numbers;
 mod payload;
 
-use payload::bare_parts;
+use numbers::command_of;
+pub use numbers::command_parts;
 pub use payload::one_byte;
 pub use payload::pwm_from;
 pub use payload::pwm_of;
@@ -17,14 +19,12 @@ use telegram::Read;
 use telegram::Refusal;
 use telegram::Telegram;
 ghost use mathlib.Core.Path.{_≡_};
-ghost use mathlib.Core.Bool.{true};
 ghost use Prim.Native.Nat.{ℕ, _+_, _≤_};
 ghost use mathlib.Core.List.{List};
 ghost use lib.ListN.{length};
 ghost use Rattle.telegram.specs.Numbers.{builtAs, counted, leaves};
-ghost use Rattle.table.specs.Table.{sizeRight};
-ghost use Rattle.command.specs.Fields.{pwmFields, layoutOf, fieldsBy};
-ghost use Rattle.command.specs.Commands.{numbered, messageOf, dissectionAs, composedAs, composing, naming, dissecting, buildingCommand, laidOut, headingAs};
+ghost use Rattle.command.specs.Fields.{pwmFields};
+ghost use Rattle.command.specs.Commands.{numbered, messageOf, dissectionAs, composedAs, composing, naming, dissecting, buildingCommand, headingAs};
 
 // A PWM word: the current mode (daytime or night) and the duty, up to 32,767.
 pub struct Pwm {
@@ -32,7 +32,7 @@ pub struct Pwm {
     pub duty: u16,
 }
 
-// The commands of the table, with their fields.
+// The commands of the table, with their fields. Those that end in Sr are acknowledged: sent with a status request, document 001's SR.
 pub enum Command {
     Reset,
     ClearError,
@@ -53,6 +53,13 @@ pub enum Command {
     SetSetup(u8),
     ReadPwm,
     SetPwm(Pwm, Pwm, Pwm),
+    GoSleepSr,
+    GoActiveSr,
+    GoDeepSleepSr,
+    SetMultSr(u16),
+    SetThresholdsSr(u8, u8, u8),
+    SetSetupSr(u8),
+    SetPwmSr(Pwm, Pwm, Pwm),
 }
 
 // A dissected telegram.
@@ -85,39 +92,6 @@ pub struct Parts {
     pub bytes: [u8; 8],
     pub size: usize,
     pub fit: bool,
-}
-
-// The command of a number of the table, with the fields in its payload.
-fn command_of(n: u8, p: &[u8]) -> Command
-    requires { ⌜ sizeRight n (length (now p)) ≡ true ⌝ }
-    ensures { λ r. ⌜ messageOf r ≡ numbered n (fieldsBy (layoutOf n) (now (p .entry))) ⌝ }
-{
-    match n {
-        0x01 => Command::ClearError,
-        0x02 => Command::InitBidir,
-        0x03 => Command::InitLoop,
-        0x04 => Command::GoSleep,
-        0x05 => Command::GoActive,
-        0x06 => Command::GoDeepSleep,
-        0x07 => Command::Identify,
-        0x0C => Command::ReadMult,
-        0x0D => Command::SetMult(bits::word(p[0], p[1])),
-        0x40 => Command::ReadStatus,
-        0x42 => Command::ReadTempStatus,
-        0x48 => Command::ReadTemp,
-        0x4A => Command::ReadThresholds,
-        0x4B => Command::SetThresholds(p[0], p[1], p[2]),
-        0x4C => Command::ReadSetup,
-        0x4D => Command::SetSetup(p[0]),
-        0x4E => Command::ReadPwm,
-        0x4F => Command::SetPwm(
-            pwm_from(p[0], p[1]),
-            pwm_from(p[2], p[3]),
-            pwm_from(p[4], p[5]),
-        ),
-        // 00, the only number of the table that is left
-        _ => Command::Reset,
-    }
 }
 
 // The command of a number and the bytes of its payload. Refusals 6, then 8.
@@ -185,33 +159,6 @@ pub fn dissect(s: &[u8]) -> Dissection
         return Dissection::Refused(telegram::refusal_of(r));
     };
     name_command(s, t)
-}
-
-// A command laid out.
-pub fn command_parts(c: Command) -> Parts
-    ensures { λ r. ⌜ r ≡ laidOut (messageOf c) ⌝ }
-{
-    match c {
-        Command::Reset => bare_parts(0x00),
-        Command::ClearError => bare_parts(0x01),
-        Command::InitBidir => bare_parts(0x02),
-        Command::InitLoop => bare_parts(0x03),
-        Command::GoSleep => bare_parts(0x04),
-        Command::GoActive => bare_parts(0x05),
-        Command::GoDeepSleep => bare_parts(0x06),
-        Command::Identify => bare_parts(0x07),
-        Command::ReadMult => bare_parts(0x0C),
-        Command::SetMult(mask) => word_parts(0x0D, mask),
-        Command::ReadStatus => bare_parts(0x40),
-        Command::ReadTempStatus => bare_parts(0x42),
-        Command::ReadTemp => bare_parts(0x48),
-        Command::ReadThresholds => bare_parts(0x4A),
-        Command::SetThresholds(x, y, z) => three_bytes(0x4B, x, y, z),
-        Command::ReadSetup => bare_parts(0x4C),
-        Command::SetSetup(x) => one_byte(0x4D, x),
-        Command::ReadPwm => bare_parts(0x4E),
-        Command::SetPwm(r, g, b) => pwm_parts(0x4F, r, g, b),
-    }
 }
 
 // The command builder. Refusals 10, 7, 9.

@@ -66,6 +66,8 @@ pub const TELEGRAM_REFUSED: u8 = 22;
 
 pub const STOPPED: u8 = 23;
 
+pub const EITHER: u8 = 24;
+
 // A word that somebody gave, as it can stand in a line.
 struct Plain {
     text: [u8; 60],
@@ -141,7 +143,7 @@ fn put_wrong(out: &mut [u8], at: usize, what: u8, n: u64, refusal: u64, word: &[
             b"nothing is wrong
 expected bytes of two hex digits, as in: osp fields A0 25 02 6B 50 7F
 expected the bytes of a telegram, as in: osp fields A0 25 02 6B 50 7F
-expected the payload in hex; setpwm also takes three of 'night DUTY' or 'day DUTY'
+expected the payload in hex; setpwm and setpwm_sr also take three of 'night DUTY' or 'day DUTY'
 expected ADDRESS COMMAND [VALUES]: a hex address, everyone, or group N, then a command
 '%t' is no command; osp info lists them
 '%t' is no subcommand; see osp help
@@ -162,6 +164,7 @@ expected --lamps, --setup, --thresholds, --raw or a file; see osp help %t
 expected --json, --quiet or a file; see osp help %t
 a telegram of the capture was refused; osp replay --raw says which
 capture stopped at position %d: refused %d: %r
+a setmult_sr of the capture may be an answer of its lamp; it was done as a command
 ",
             what as usize,
         ),

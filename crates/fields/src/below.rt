@@ -1,4 +1,4 @@
-// What a telegram is, below its table: a command or an answer in words, or why it is refused, with the failed field marked.
+// What a telegram is, below its table: a command, an answer or either in words, or why it is refused, with the failed field marked.
 use verdict::Verdict;
 use words::Told;
 use words::bare;
@@ -63,21 +63,20 @@ fn mark_told(number: u8, n: usize) -> Told {
 fn before_told(v: Verdict, n: usize) -> Told {
     match v {
         Verdict::Sent => bare(3),
-        Verdict::Given => bare(4),
         Verdict::Refused(number, _) => mark_told(number, n),
+        _ => bare(4),
     }
 }
 
 // What stands behind them: the line's end; one refusal of the reader, or two of the dissectors.
 fn after_told(v: Verdict) -> Told {
     match v {
-        Verdict::Sent => bare(0),
-        Verdict::Given => bare(0),
         Verdict::Refused(number, answer) => {
             let n = number as u64;
             let m = answer as u64;
             values_told(if number < 6 { 5 } else { 6 }, n, n, m, m)
         }
+        _ => bare(0),
     }
 }
 
@@ -99,7 +98,14 @@ as a command refused %d: %r\nas an answer refused %d: %r\n%;    |
     )
 }
 
-// Appends the verdict of n bytes, of which `bytes` has the first.
+// Appends a verdict that is not either.
+fn put_one(out: &mut [u8], at: usize, book: &[u8], v: Verdict, bytes: [u8; 16], n: usize) -> usize {
+    let a = say(out, at, book, before_told(v, n));
+    let b = verdict::put_words(out, a, book, v, words::message_of(bytes, n));
+    say(out, b, book, after_told(v))
+}
+
+// Appends the verdict of n bytes, of which `bytes` has the first. What is either has the line of a command and that of an answer.
 pub(crate) fn put_verdict(
     out: &mut [u8],
     at: usize,
@@ -108,7 +114,11 @@ pub(crate) fn put_verdict(
     bytes: [u8; 16],
     n: usize,
 ) -> usize {
-    let a = say(out, at, book, before_told(v, n));
-    let b = verdict::put_words(out, a, book, v, words::message_of(bytes, n));
-    say(out, b, book, after_told(v))
+    match v {
+        Verdict::Either => {
+            let a = put_one(out, at, book, Verdict::Sent, bytes, n);
+            put_one(out, a, book, Verdict::Given, bytes, n)
+        }
+        _ => put_one(out, at, book, v, bytes, n),
+    }
 }

@@ -1,44 +1,15 @@
 // The table of 1 to 16 bytes: nine lines, each a head over the first three bytes, cells over the others, and an end.
+use crate::facts::Facts;
+use crate::facts::facts_of;
 use words::Told;
 use words::bare;
 use words::put_row;
 use words::values_told;
 
-// What the bytes hold. A byte that is missing counts as 0.
-struct Facts {
-    count: usize,
-    preamble: u8,
-    address: u16,
-    index: u8,
-    number: u8,
-    received: u8,
-    computed: u8,
-}
-
 // A short word as a value.
 struct Word {
     text: [u8; 16],
     size: usize,
-}
-
-// The checksum of all bytes but the last.
-fn computed(s: &[u8]) -> u8 {
-    checksum::checksum(text::first(s, std::num::wrapping_sub_usize(s.len(), 1)))
-}
-
-fn facts_of(s: &[u8]) -> Facts {
-    let b0 = text::byte_at(s, 0);
-    let b1 = text::byte_at(s, 1);
-    let b2 = text::byte_at(s, 2);
-    Facts {
-        count: s.len(),
-        preamble: b0 / 16,
-        address: (b0 % 16) as u16 * 64 + (b1 / 4) as u16,
-        index: b1 % 4 * 2 + b2 / 128,
-        number: b2 % 128,
-        received: text::byte_at(s, std::num::wrapping_sub_usize(s.len(), 1)),
-        computed: computed(s),
-    }
 }
 
 // Which head a count of bytes has: for one byte, two, or three and more.
@@ -50,14 +21,23 @@ fn head_of(count: usize) -> u8 {
     }
 }
 
+// The head in hex. An acknowledged command's has SR behind the number.
+fn hex_row(head: u8, is_acknowledged: bool) -> u8 {
+    if bits::and(head == 2, is_acknowledged) {
+        return 17;
+    }
+    11 + head % 3
+}
+
 // The head of a line: 0 to 2 stand over the bytes, 3 and 4 name the fields, 6 is hex, 7 decimal or by name, 5 and 8 are borders.
-fn head_row(line: u8, head: u8) -> u8 {
+fn head_row(line: u8, f: Facts) -> u8 {
+    let head = head_of(f.count);
     match line {
         0 => 0,
         1..=2 => 1,
         3 => 2 + head % 3,
         4 => 5 + head % 3,
-        6 => 11 + head % 3,
+        6 => hex_row(head, f.plain != f.number),
         7 => 14 + head % 3,
         _ => 8 + head % 3,
     }
@@ -106,8 +86,8 @@ fn head_values(book: &[u8], line: u8, f: Facts, size: usize) -> [u64; 8] {
             0,
             28,
             f.index as u64,
-            before(13, words::name_size(book, f.number)),
-            f.number as u64,
+            before(13, words::name_size(book, f.plain)),
+            f.plain as u64,
             48,
             0,
         ];
@@ -128,7 +108,7 @@ fn put_head(out: &mut [u8], at: usize, book: &[u8], line: u8, f: Facts) -> usize
     let word = destination_word(book, f.address);
     let letters = word.text;
     let head = Told {
-        row: head_row(line, head_of(f.count)),
+        row: head_row(line, f),
         values: head_values(book, line, f, word.size),
     };
     put_row(
@@ -152,6 +132,7 @@ fn put_head(out: &mut [u8], at: usize, book: &[u8], line: u8, f: Facts) -> usize
 |   -   |   ?   |%;                                           |
 |   -   |%_%t%>| ? |%;                                        |
 |   -   |%_%t%>|  %d  |%_%c%>|%;                              |
+|  0x%h  |       0x%a       | 0x%h |   0x%b SR   |%;          |
 ",
         head,
         text::first(&letters, word.size),

@@ -1,5 +1,6 @@
 // osp fields: document 002's table of a telegram. docs/TOOL.md has the form.
 mod below;
+mod facts;
 mod grid;
 
 // Of more bytes than the table has columns, a line that counts them.

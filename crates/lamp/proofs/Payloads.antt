@@ -11,10 +11,13 @@ use lib.Seq.{take-at}
 use borrow.Author.Tests.{eqb-true}
 use Rattle.telegram.specs.Numbers.{done}
 use Rattle.telegram.specs.Telegram.{listed}
-use Rattle.table.specs.Table.{rowOf, answerSizeOf}
+use Rattle.table.specs.Table.{rowOf, acknowledged, answerSizeOf}
 use Rattle.table.proofs.Table.{answer-listed}
+use Rattle.table.proofs.Acknowledged.{acknowledged-answer}
+use Rattle.command.specs.Commands.{Message}
+use Rattle.rules.specs.declared.Defaults.{Defaults}
 use Rattle.rules.specs.declared.Lamp.{Lamp}
-use Rattle.rules.specs.Lamp.{obeys, told, answered}
+use Rattle.rules.specs.Lamp.{obeys, toldBy, answered}
 use Rattle.rules.proofs.Walks.{where-true, either}
 use Rattle.lamp.specs.declared.Payload.{Payload}
 use Rattle.lamp.specs.Reactions.{padded}
@@ -39,10 +42,11 @@ Sized n [] = Unit {0}
 Sized n (x ∷ xs) = answerSizeOf n ≡ done (length (x ∷ xs))
 
 -- What a lamp answers is so.
-pub answered-sized : (n : ℕ) (l : Lamp) → Sized n (answered n l)
-unfolding answered told rowOf
-answered-sized n l =
+pub answered-sized : (d : Defaults) (m : Message) (l : Lamp) → Sized (m .number) (answered d m l)
+unfolding answered toldBy rowOf
+answered-sized d m l =
     either (Sized n) (obeys n (l .state))
+    (where-true (Sized n) (acknowledged n) (acknowledged-answer n)
     (where-true (Sized n) (eqb n 0x07) (size 0x07 refl)
     (where-true (Sized n) (eqb n 0x0C) (size 0x0C refl)
     (where-true (Sized n) (eqb n 0x40) (size 0x40 refl)
@@ -51,16 +55,19 @@ answered-sized n l =
     (where-true (Sized n) (eqb n 0x4A) (size 0x4A refl)
     (where-true (Sized n) (eqb n 0x4C) (size 0x4C refl)
     (where-true (Sized n) (eqb n 0x4E) (size 0x4E refl)
-    tt))))))))
+    tt)))))))))
     tt
   where
+    n : ℕ
+    n = m .number
+
     size : {j : ℕ} (k : ℕ) → answerSizeOf k ≡ done j → eqb n k ≡ true → answerSizeOf n ≡ done j
     size k s e = ap answerSizeOf (eqb-true n k e) ∙ s
 
 -- So an answer has as many bytes as a telegram may carry.
-pub answered-listed : (n : ℕ) (l : Lamp) → listed (length (answered n l)) ≡ true
-answered-listed n l = go (answered n l) (answered-sized n l)
+pub answered-listed : (d : Defaults) (m : Message) (l : Lamp) → listed (length (answered d m l)) ≡ true
+answered-listed d m l = go (answered d m l) (answered-sized d m l)
   where
-    go : (p : List ℕ) → Sized n p → listed (length p) ≡ true
+    go : (p : List ℕ) → Sized (m .number) p → listed (length p) ≡ true
     go [] s = refl
-    go (x ∷ xs) s = answer-listed n (length (x ∷ xs)) s .1
+    go (x ∷ xs) s = answer-listed (m .number) (length (x ∷ xs)) s .1

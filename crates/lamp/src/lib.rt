@@ -9,8 +9,11 @@ use telegram::Address;
 ghost use mathlib.Core.Path.{_≡_};
 ghost use mathlib.Core.Bool.{_||_, not};
 ghost use mathlib.Core.List.{[], _∷_, _++_};
-ghost use Prim.Native.Nat.{_≤_, _/_, _%_};
+ghost use mathlib.Core.List.{List};
+ghost use Prim.Native.Nat.{ℕ, _≤_, _/_, _%_};
 ghost use Rattle.command.specs.Fields.{wordBytes};
+ghost use Rattle.command.specs.Commands.{numbered};
+ghost use Rattle.rules.specs.declared.Defaults.{Defaults as DefaultsType};
 ghost use Rattle.rules.specs.Lamp.{bit, stateNumber, statusByte, statusOf, blank, withState, noFlags, marked, faulted, sensed, uninitialized, told, answered, report};
 ghost use Rattle.lamp.specs.Reactions.{padded};
 
@@ -256,10 +259,11 @@ fn status_of(l: Lamp) -> u8
     status_byte(state, l.direction, flags)
 }
 
-// The register that a command reads, as it stands. The status byte is made before the match: there the compiler sees that it is the one
-// which was loaded.
-fn register_bytes(n: u8, l: Lamp) -> Payload
-    ensures { λ r. ⌜ r ≡ padded (told n l) ⌝ }
+// What a lamp that obeys a command answers: the register as it stands, to an acknowledged command temperature and status as they will
+// stand after the effect, of which only a GO command changes one. The status byte is made before the match: there the compiler sees that
+// it is the one which was loaded.
+fn told_bytes(n: u8, l: Lamp) -> Payload
+    ensures { λ r. ⌜ ((d : DefaultsType) (f : List ℕ) → r ≡ padded (told d (numbered n f) l)) ⌝ }
 {
     let thresholds = l.thresholds;
     let pwm = l.pwm;
@@ -268,7 +272,10 @@ fn register_bytes(n: u8, l: Lamp) -> Payload
         0x07 => four_zeros(),
         0x0C => word_bytes(l.groups),
         0x40 => one_byte(status),
-        0x42 => report_bytes(l),
+        0x2D | 0x42 | 0x6B | 0x6D | 0x6F => report_bytes(l),
+        0x24 => report_bytes(with_state(l, State::Sleep)),
+        0x25 => report_bytes(with_state(l, State::Active)),
+        0x26 => report_bytes(with_state(l, State::DeepSleep)),
         0x48 => one_byte(l.temperature),
         0x4A => three_bytes(thresholds),
         0x4C => one_byte(l.setup),
@@ -277,13 +284,13 @@ fn register_bytes(n: u8, l: Lamp) -> Payload
     }
 }
 
-// What a lamp that a command reaches answers.
+// What a lamp that a command reaches answers, whatever the defaults and the command's fields are.
 pub fn answer_bytes(n: u8, l: Lamp) -> Payload
-    ensures { λ r. ⌜ r ≡ padded (answered n l) ⌝ }
+    ensures { λ r. ⌜ ((d : DefaultsType) (f : List ℕ) → r ≡ padded (answered d (numbered n f) l)) ⌝ }
 {
     let state = l.state;
     if heeds(n <= 0x01, state) {
-        return register_bytes(n, l);
+        return told_bytes(n, l);
     }
     no_bytes()
 }

@@ -24,6 +24,16 @@ fn put_received(out: &mut [u8], at: usize, book: &[u8], answer: [u8; 16], size: 
     objects::put_answer(out, a, book, words::message_of(answer, size))
 }
 
+// Appends a command, and for one that may be an answer that it is either.
+fn put_command(out: &mut [u8], at: usize, book: &[u8], line: Line, given: Given) -> usize {
+    let bytes = line.bytes;
+    let a = objects::put_command(out, at, book, words::message_of(bytes, line.count));
+    if !crate::is_either(line, given) {
+        return a;
+    }
+    put_told(out, a, book, bare(texts::JSON_EITHER), b"")
+}
+
 // The start of an object: where the line stands, and what it says.
 fn line_told(before: u64, line: Line) -> Told {
     let kind = line.kind;
@@ -77,6 +87,6 @@ pub fn put_line(
         return put_told(out, a, book, end_told(given.number), b"");
     }
     let answer = given.answer;
-    let b = objects::put_command(out, a, book, words::message_of(bytes, line.count));
+    let b = put_command(out, a, book, line, given);
     put_received(out, b, book, answer, given.size)
 }

@@ -223,6 +223,20 @@ pub fn line_at(s: &[u8], at: usize, holds: Holds) -> Line {
     any_at(s, at, is_last(holds))
 }
 
+// Whether a line is a telegram of a capture that was done as a command and may be an answer: all answers to acknowledged commands have two
+// bytes, so that it is such a command with two bytes itself.
+pub fn is_either(line: Line, given: Given) -> bool {
+    if line.count != 6 {
+        return false;
+    }
+    let kind = line.kind;
+    let bytes = line.bytes;
+    match kind {
+        Kind::Captured => bits::and(given.number == 0, table::is_acknowledged(bytes[2] % 128)),
+        _ => false,
+    }
+}
+
 // Appends what is printed of a line that was done: where it stands, what it says, and what the chain gave. `before` is how many lines of
 // the script, or bytes of the capture, stand before it; `book` is `words::book`.
 pub fn put_line(

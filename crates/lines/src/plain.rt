@@ -44,6 +44,18 @@ fn refused_told(kind: Kind, before: u64, refusal: u8) -> Told {
     }
 }
 
+// Appends a command in words, and for one that may be an answer that it was done as a command.
+fn put_command(out: &mut [u8], at: usize, book: &[u8], line: Line, given: Given) -> usize {
+    let bytes = line.bytes;
+    let m = words::message_of(bytes, line.count);
+    let a = words::put_command(out, at, book, m);
+    if !crate::is_either(line, given) {
+        return a;
+    }
+    let told = values_told(texts::EITHER, m.address as u64, 0, 0, 0);
+    put_told(out, a, book, told, b"")
+}
+
 fn put_telegram(
     out: &mut [u8],
     at: usize,
@@ -59,7 +71,7 @@ fn put_telegram(
         return put_told(out, a, book, refused_told(kind, before, given.number), b"");
     }
     let answer = given.answer;
-    let b = words::put_command(out, a, book, words::message_of(bytes, line.count));
+    let b = put_command(out, a, book, line, given);
     put_received(out, b, book, answer, given.size)
 }
 

@@ -3,11 +3,12 @@ use verdict::Verdict;
 use words::Told;
 use words::values_told;
 
-// How many telegrams there were, and how many of them were commands, answers and neither.
+// How many telegrams there were, and how many of them were commands, answers, either and neither.
 pub struct Tally {
     pub telegrams: u64,
     pub commands: u64,
     pub answers: u64,
+    pub either: u64,
     pub neither: u64,
 }
 
@@ -16,6 +17,7 @@ pub fn no_telegrams() -> Tally {
         telegrams: 0,
         commands: 0,
         answers: 0,
+        either: 0,
         neither: 0,
     }
 }
@@ -30,6 +32,9 @@ pub fn counted(t: Tally, v: Verdict) -> Tally {
         }
         Verdict::Given => {
             next.answers = std::num::wrapping_add_u64(t.answers, 1);
+        }
+        Verdict::Either => {
+            next.either = std::num::wrapping_add_u64(t.either, 1);
         }
         Verdict::Refused(_, _) => {
             next.neither = std::num::wrapping_add_u64(t.neither, 1);
@@ -46,23 +51,31 @@ fn start_row(json: bool, stopped: bool) -> u8 {
     if stopped { 1 } else { 0 }
 }
 
-// The counts.
+// The counts of an object.
+fn object_counts(t: Tally, refusal: u64) -> [u64; 8] {
+    [t.commands, t.answers, t.either, t.neither, refusal, 0, 0, 0]
+}
+
+// The counts as text, of those that are either only where there are any.
+fn text_counts(t: Tally) -> [u64; 8] {
+    let c = t.commands;
+    let a = t.answers;
+    if t.either == 0 {
+        return [c, c, a, a, t.neither, 0, 0, 0];
+    }
+    [c, c, a, a, t.either, t.neither, 0, 0]
+}
+
 fn counts_told(json: bool, t: Tally, refusal: u64) -> Told {
     if json {
-        return values_told(5, t.commands, t.answers, t.neither, refusal);
+        return Told {
+            row: 9,
+            values: object_counts(t, refusal),
+        };
     }
     Told {
-        row: 4,
-        values: [
-            t.commands,
-            t.commands,
-            t.answers,
-            t.answers,
-            t.neither,
-            0,
-            0,
-            0,
-        ],
+        row: if t.either == 0 { 4 } else { 5 },
+        values: text_counts(t),
     }
 }
 
@@ -81,6 +94,7 @@ fn rest_told(json: bool, quiet: bool, t: Tally, refusal: u64) -> Told {
     counts_told(json, t, refusal)
 }
 
+// Appends a form; the last one is longer than its row.
 fn say(out: &mut [u8], at: usize, told: Told) -> usize {
     words::put_row(
         out,
@@ -91,11 +105,11 @@ stopped at position %d: %d telegram%p before it%;             |
 {\"ended\":%d,\"telegrams\":%d%;                                  |
 {\"stopped\":%d,\"telegrams\":%d%;                                |
  (%d command%p, %d answer%p, %d neither)\n%;                   |
-,\"commands\":%d,\"answers\":%d,\"neither\":%d,\"number\":%d}\n%;      |
+ (%d command%p, %d answer%p, %d either, %d neither)\n%;        |
 \n%;                                                           |
 , refused %d: %r\n%;                                           |
 ,\"number\":%d}\n%;                                              |
-",
+,\"commands\":%d,\"answers\":%d,\"either\":%d,\"neither\":%d,\"number\":%d}\n",
         told,
         b"",
     )

@@ -73,17 +73,24 @@ pub(crate) fn put_meaning(out: &mut [u8], at: usize, book: &[u8], v: Verdict, m:
     }
 }
 
-// The same as the end of an object.
+// Appends an answer as the end of an object, behind the row that names what it answers.
+fn put_given(out: &mut [u8], at: usize, book: &[u8], row: u8, m: Message) -> usize {
+    let told = values_told(row, m.number as u64, 0, 0, 0);
+    let a = put_told(out, at, book, told, b"");
+    objects::put_answer(out, a, book, m)
+}
+
+// What a telegram says, or the numbers of its two refusals, as the end of an object.
 fn put_object_end(out: &mut [u8], at: usize, book: &[u8], v: Verdict, m: Message) -> usize {
     match v {
         Verdict::Sent => {
             let a = objects::put_command(out, at, book, m);
             text::put(out, a, b"}\n")
         }
-        Verdict::Given => {
-            let told = values_told(texts::JSON_ANSWERS, m.number as u64, 0, 0, 0);
-            let a = put_told(out, at, book, told, b"");
-            objects::put_answer(out, a, book, m)
+        Verdict::Given => put_given(out, at, book, texts::JSON_ANSWERS, m),
+        Verdict::Either => {
+            let a = objects::put_command(out, at, book, m);
+            put_given(out, a, book, texts::JSON_OR_ANSWERS, m)
         }
         Verdict::Refused(command, answer) => {
             let told = values_told(texts::JSON_NEITHER, command as u64, answer as u64, 0, 0);

@@ -226,12 +226,23 @@ fn show(name: &[u8], o: Options, subcommand: u8, style: Style, look: Look, err: 
     print_after(&mut page, &book, &mem, style, look, o.lamps, p)
 }
 
-// Says what is not printed: why a run ended, and where nothing is printed of a capture where it was refused. Answers the status.
+// Says what is not printed of a capture of which nothing is printed: that a telegram may be an answer, and where it was refused.
+fn say_silent(err: i32, subcommand: u8, p: Played) {
+    let run = p.run;
+    if run.either {
+        complaint::say(err, subcommand, complaint::EITHER);
+    }
+    if p.refusal != 0 {
+        complaint::say_stopped(err, subcommand, run.line, p.refusal);
+    }
+}
+
+// Says why a run ended, and what is not printed. Answers the status.
 fn conclude(err: i32, subcommand: u8, name: &[u8], style: Style, p: Played) -> u8 {
     let run = p.run;
     say_stop(err, subcommand, name, run);
-    if bits::and(is_ended(run), bits::and(is_silent(style), p.refusal != 0)) {
-        complaint::say_stopped(err, subcommand, run.line, p.refusal);
+    if bits::and(is_ended(run), is_silent(style)) {
+        say_silent(err, subcommand, p);
     }
     status_of(p)
 }

@@ -1,4 +1,5 @@
 pub mod Walks
+pub mod Acknowledged
 pub mod Deliveries
 pub mod Starting
 pub mod Kept

@@ -16,7 +16,7 @@ use Rattle.telegram.specs.declared.Address.{Address}
 use Rattle.telegram.proofs.Outcomes.{never, done-one, passed}
 use Rattle.telegram.proofs.Building.{Sendable, build-done}
 use Rattle.table.specs.Casts.{addressOf, castInRange}
-use Rattle.table.specs.Table.{rowOf}
+use Rattle.table.specs.Table.{rowOf, acknowledged, plainNumber}
 use Rattle.table.specs.declared.Cast.{Cast}
 use Rattle.table.specs.declared.Cast.the-variants.{Everyone, One, Group}
 use Rattle.command.specs.Fields.{layoutOf}
@@ -176,7 +176,7 @@ fit-dissects c cast f =
 -- An init of either kind fits a first address.
 init-fits : (k : ℕ) (a : Address) → isInit k ≡ true → castInRange (One a) ≡ true
     → (c : Command) × ((messageOf c .number ≡ k) × Fit (messageOf c) (One a))
-unfolding isInit layoutOf rowOf
+unfolding isInit layoutOf rowOf plainNumber acknowledged
 init-fits k a init r = go (eqb k 0x02) (eqb k 0x03) refl refl init
   where
     go : (b₂ b₃ : Bool) → eqb k 0x02 ≡ b₂ → eqb k 0x03 ≡ b₃ → (b₂ || b₃) ≡ true

@@ -14,13 +14,15 @@ use borrow.Author.Tests.{eq-eqb, ne-eqb, eqb-true}
 use Rattle.telegram.specs.Numbers.{Outcome, done}
 use Rattle.telegram.specs.declared.Address.{Address}
 use Rattle.telegram.proofs.Outcomes.{never, done-one}
+use Rattle.table.specs.Table.{plainNumber}
 use Rattle.table.specs.declared.Cast.the-variants.{One}
+use Rattle.table.proofs.Acknowledged.{plain-reset}
 use Rattle.command.specs.Commands.{Message}
 use Rattle.rules.specs.declared.Defaults.{Defaults}
 use Rattle.rules.specs.declared.Lamp.{Lamp}
 use Rattle.rules.specs.declared.State.{State}
 use Rattle.rules.specs.declared.State.the-variants.{Sleep, Active, DeepSleep}
-use Rattle.rules.specs.Lamp.{noAddress, reset, cleared, withState, withGroups, withThresholds, withSetup, withPwm, field, pwmWords, changed, acted, answered, obeys}
+use Rattle.rules.specs.Lamp.{noAddress, reset, cleared, withState, withGroups, withThresholds, withSetup, withPwm, field, pwmWords, changedBy, acted, answered, obeys}
 use Rattle.rules.specs.Chain.{Step, onward, ends, Walked, stepped, walk, answerFrom, reaching, lampIn}
 
 -- The lamp that a step leaves.
@@ -118,23 +120,23 @@ where-true P false h k = k
 pub either : {A : Type 0} {x y : A} (P : A → Type 0) (b : Bool) → P x → P y → P (cond b x y)
 either P b h k = where-true P b (λ e. h) k
 
--- What a command may make of a lamp, case by case, and that P holds of it.
+-- What a command may make of a lamp, case by case by the number of its plain form, and that P holds of it.
 pub record Cases (P : Lamp → Type 0) (d : Defaults) (m : Message) (l : Lamp) : Type 0 where
   pub stays : P l
-  pub resets : m .number ≡ 0x00 → P (reset d l)
+  pub resets : plainNumber (m .number) ≡ 0x00 → P (reset d l)
   pub clears : P (cleared l)
   pub goes : (s : State) → P (withState s l)
-  pub groups : m .number ≡ 0x0D → P (withGroups (field m 0) l)
-  pub thresholds : m .number ≡ 0x4B → P (withThresholds (record { cycle = field m 0; low = field m 1; high = field m 2 }) l)
-  pub setup : m .number ≡ 0x4D → P (withSetup (field m 0) l)
-  pub pwm : m .number ≡ 0x4F → P (withPwm (pwmWords (m .fields)) l)
+  pub groups : plainNumber (m .number) ≡ 0x0D → P (withGroups (field m 0) l)
+  pub thresholds : plainNumber (m .number) ≡ 0x4B → P (withThresholds (record { cycle = field m 0; low = field m 1; high = field m 2 }) l)
+  pub setup : plainNumber (m .number) ≡ 0x4D → P (withSetup (field m 0) l)
+  pub pwm : plainNumber (m .number) ≡ 0x4F → P (withPwm (pwmWords (m .fields)) l)
 
 -- What holds in each case holds of the lamp after the command.
 pub acted-cases : (P : Lamp → Type 0) (d : Defaults) (m : Message) (l : Lamp) → Cases P d m l → P (acted d m l)
-unfolding acted changed
+unfolding acted changedBy
 acted-cases P d m l c =
-    let n = m .number in
-    either P (obeys n (l .state))
+    let n = plainNumber (m .number) in
+    either P (obeys (m .number) (l .state))
     (where-true P (eqb n 0x00) (λ e. c .resets (eqb-true _ _ e))
     (either P (eqb n 0x01) (c .clears)
     (either P (eqb n 0x04) (c .goes Sleep)
@@ -157,7 +159,7 @@ acted-kept P d m l z h =
     acted-cases (λ (x : Lamp). P (x .address)) d m l
     (record {
       stays = h;
-      resets = z;
+      resets = λ e. z (plain-reset (m .number) e);
       clears = h;
       goes = λ s. h;
       groups = λ e. h;
@@ -195,7 +197,7 @@ module _ (d : Defaults) (m : Message) (b : ℕ) where
   -- It ends at a lamp with that address ..
   pub hit : (p : ℕ) (x : Lamp) (xs : List Lamp) → x .address .0 ≡ b
       → walk seeking p (x ∷ xs)
-      ≡ record { lamps = acted d m x ∷ xs; outcome = done (answerFrom b (m .number) (answered (m .number) x)) }
+      ≡ record { lamps = acted d m x ∷ xs; outcome = done (answerFrom b (m .number) (answered d m x)) }
   hit p x xs e = rw (eq-eqb (x .address .0) b e)
 
   -- .. and passes by a lamp with another one.
@@ -209,7 +211,7 @@ module _ (d : Defaults) (m : Message) (b : ℕ) where
   sought-address P p x z h = go (eqb (x .address .0) b)
     where
       go : (t : Bool)
-          → P (lampOf (cond t (ends (acted d m x) (done (answerFrom b (m .number) (answered (m .number) x)))) (onward x)) .address)
+          → P (lampOf (cond t (ends (acted d m x) (done (answerFrom b (m .number) (answered d m x)))) (onward x)) .address)
       go true = acted-address P d m x z h
       go false = h
 

@@ -82,7 +82,7 @@ answerFrom a n (x ∷ xs) = telegramOf a n (x ∷ xs)
 abbrev pub reaching : Defaults → Message → Cast → ℕ → Lamp → Step
 reaching d m Everyone p l = onward (acted d m l)
 reaching d m (One a) p l =
-    cond (eqb (l .address .0) (a .0)) (ends (acted d m l) (done (answerFrom (a .0) (m .number) (answered (m .number) l)))) (onward l)
+    cond (eqb (l .address .0) (a .0)) (ends (acted d m l) (done (answerFrom (a .0) (m .number) (answered d m l)))) (onward l)
 reaching d m (Group g) p l = onward (cond (member g l) (acted d m l) l)
 
 -- 02 and 03 are init.

@@ -1,4 +1,5 @@
--- Document 01, "A lamp and the chain", on one lamp: its status byte, and what it does with a command.
+-- Document 01, "A lamp and the chain", on one lamp: its status byte, and what it does with a command. Document 02, request 02: what it
+-- does with an acknowledged command.
 -- Assumes nothing.
 use Prim.Native.Nat.{ℕ, _+_, _*_, _/_, _%_, _^_}
 use mathlib.Core.Bool.{Bool, true, false, cond, not, _||_}
@@ -6,6 +7,7 @@ use mathlib.Core.List.{List, [], _∷_, _++_}
 use lib.Dec.{eqb, leb}
 use lib.ListN.{getD}
 use Rattle.telegram.specs.declared.Address.{Address}
+use Rattle.table.specs.Table.{acknowledged, plainNumber}
 use Rattle.command.specs.Fields.{wordBytes}
 use Rattle.command.specs.Commands.{Message}
 use Rattle.rules.specs.declared.State.{State}
@@ -121,31 +123,35 @@ pwmWord f i = getD f i 0 * 32768 + getD f (i + 1) 0 % 32768
 abbrev pub pwmWords : List ℕ → Words
 pwmWords f = record { red = pwmWord f 0; green = pwmWord f 2; blue = pwmWord f 4 }
 
--- What a lamp that obeys a command becomes, by the command's number. CLRERROR, READSTATUS and READTEMPST clear the five flags, GO
+-- What a lamp that obeys a plain command becomes, by the command's number. CLRERROR, READSTATUS and READTEMPST clear the five flags, GO
 -- commands set the state, set commands store; the others change nothing.
-unfoldable pub changed : Defaults → Message → Lamp → Lamp
-changed d m l =
-    cond (eqb (m .number) 0x00) (reset d l)  -- RESET
-    (cond (eqb (m .number) 0x01) (cleared l)  -- CLRERROR
-    (cond (eqb (m .number) 0x04) (withState Sleep l)  -- GOSLEEP
-    (cond (eqb (m .number) 0x05) (withState Active l)  -- GOACTIVE
-    (cond (eqb (m .number) 0x06) (withState DeepSleep l)  -- GODEEPSLEEP
-    (cond (eqb (m .number) 0x0D) (withGroups (field m 0) l)  -- SETMULT
-    (cond (eqb (m .number) 0x40) (cleared l)  -- READSTATUS
-    (cond (eqb (m .number) 0x42) (cleared l)  -- READTEMPST
-    (cond (eqb (m .number) 0x4B) (withThresholds (record { cycle = field m 0; low = field m 1; high = field m 2 }) l)  -- SETOTTH
-    (cond (eqb (m .number) 0x4D) (withSetup (field m 0) l)  -- SETSETUP
-    (cond (eqb (m .number) 0x4F) (withPwm (pwmWords (m .fields)) l)  -- SETPWM
+unfoldable pub changedBy : ℕ → Defaults → Message → Lamp → Lamp
+changedBy n d m l =
+    cond (eqb n 0x00) (reset d l)  -- RESET
+    (cond (eqb n 0x01) (cleared l)  -- CLRERROR
+    (cond (eqb n 0x04) (withState Sleep l)  -- GOSLEEP
+    (cond (eqb n 0x05) (withState Active l)  -- GOACTIVE
+    (cond (eqb n 0x06) (withState DeepSleep l)  -- GODEEPSLEEP
+    (cond (eqb n 0x0D) (withGroups (field m 0) l)  -- SETMULT
+    (cond (eqb n 0x40) (cleared l)  -- READSTATUS
+    (cond (eqb n 0x42) (cleared l)  -- READTEMPST
+    (cond (eqb n 0x4B) (withThresholds (record { cycle = field m 0; low = field m 1; high = field m 2 }) l)  -- SETOTTH
+    (cond (eqb n 0x4D) (withSetup (field m 0) l)  -- SETSETUP
+    (cond (eqb n 0x4F) (withPwm (pwmWords (m .fields)) l)  -- SETPWM
     l))))))))))
+
+-- What a lamp that obeys a command becomes: each acknowledged command does what its plain form does.
+abbrev pub changed : Defaults → Message → Lamp → Lamp
+changed d m l = changedBy (plainNumber (m .number)) d m l
 
 -- READTEMPST is temperature, then status.
 abbrev pub report : Lamp → List ℕ
 report l = l .temperature ∷ statusOf l ∷ []
 
--- What a lamp that obeys a command answers, by the command's number: the register as it stood when the command came, so flags are
+-- What a lamp that obeys a plain command answers, by the command's number: the register as it stood when the command came, so flags are
 -- answered before they are cleared. No bytes is no answer.
-unfoldable pub told : ℕ → Lamp → List ℕ
-told n l =
+unfoldable pub toldBy : ℕ → Lamp → List ℕ
+toldBy n l =
     cond (eqb n 0x07) (0 ∷ 0 ∷ 0 ∷ 0 ∷ [])  -- IDENTIFY
     (cond (eqb n 0x0C) (wordBytes (l .groups))  -- READMULT
     (cond (eqb n 0x40) (statusOf l ∷ [])  -- READSTATUS
@@ -155,6 +161,11 @@ told n l =
     (cond (eqb n 0x4C) (l .setup ∷ [])  -- READSETUP
     (cond (eqb n 0x4E) (wordBytes (l .pwm .red) ++ wordBytes (l .pwm .green) ++ wordBytes (l .pwm .blue))  -- READPWM
     [])))))))
+
+-- What a lamp that obeys a command answers. An acknowledged command does what its plain form does, then answers with the two bytes of
+-- READTEMPST as they stand after the effect, clearing no flag.
+abbrev pub told : Defaults → Message → Lamp → List ℕ
+told d m l = cond (acknowledged (m .number)) (report (changed d m l)) (toldBy (m .number) l)
 
 -- The state is UNINITIALIZED.
 abbrev pub uninitialized : State → Bool
@@ -172,8 +183,8 @@ unfoldable pub acted : Defaults → Message → Lamp → Lamp
 acted d m l = cond (obeys (m .number) (l .state)) (changed d m l) l
 
 -- .. and the bytes of its answer.
-unfoldable pub answered : ℕ → Lamp → List ℕ
-answered n l = cond (obeys n (l .state)) (told n l) []
+unfoldable pub answered : Defaults → Message → Lamp → List ℕ
+answered d m l = cond (obeys (m .number) (l .state)) (told d m l) []
 
 -- Bit g makes the lamp a member of group g.
 unfoldable pub member : ℕ → Lamp → Bool

@@ -25,12 +25,13 @@ pub enum Stop {
 }
 
 // How far a run has come: bytes used of the page, lines of the script or bytes of the capture that were done, bytes of the text that were
-// taken, whether the chain refused anything.
+// taken, whether the chain refused anything, whether it did a telegram of the capture that may be an answer.
 pub struct Run {
     pub at: usize,
     pub line: u64,
     pub used: usize,
     pub refused: bool,
+    pub either: bool,
     pub stop: Stop,
 }
 
@@ -41,6 +42,7 @@ pub fn run_of(stop: Stop) -> Run {
         line: 0,
         used: 0,
         refused: false,
+        either: false,
         stop,
     }
 }
@@ -58,6 +60,7 @@ pub fn stopped(run: Run, stop: Stop) -> Run {
         line: run.line,
         used: run.used,
         refused: run.refused,
+        either: run.either,
         stop,
     }
 }
@@ -119,10 +122,11 @@ fn act(mem: &mut [u8], line: Line) -> Given {
 }
 
 // The run after a line that left `at` bytes on the page.
-fn gone_on(run: Run, at: usize, refused: bool) -> Run {
+fn gone_on(run: Run, at: usize, refused: bool, either: bool) -> Run {
     let mut next = run;
     next.at = at;
     next.refused = bits::or(run.refused, refused);
+    next.either = bits::or(run.either, either);
     next
 }
 
@@ -130,7 +134,7 @@ fn gone_on(run: Run, at: usize, refused: bool) -> Run {
 fn do_said(line: Line, mem: &mut [u8], out: &mut [u8], style: Style, run: Run, book: &[u8]) -> Run {
     let given = act(mem, line);
     let at = lines::put_line(out, run.at, style, run.line, line, given, book);
-    gone_on(run, at, given.number != 0)
+    gone_on(run, at, given.number != 0, lines::is_either(line, given))
 }
 
 // Does a line.

@@ -1,4 +1,5 @@
 pub mod Both
 pub mod Keys
 pub mod Table
+pub mod Acknowledged
 pub mod Destinations

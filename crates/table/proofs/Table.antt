@@ -1,7 +1,7 @@
 -- The table of commands: its rows by ranges, the numbers that it has not, and the sizes that it has for payloads and answers.
 -- Assumes nothing.
 use mathlib.Core.Path.{_≡_, refl, sym, ap, _∙_, subst}
-use mathlib.Core.Bool.{Bool, true, false, _||_}
+use mathlib.Core.Bool.{Bool, true, false, _&&_, _||_}
 use mathlib.Core.List.{List, [], _∷_}
 use Prim.Native.Nat.{ℕ, _+_, _-_, _≤_, _<_}
 use native.Mathlib.Omega.{arith}
@@ -13,7 +13,7 @@ use Rattle.telegram.specs.Numbers.{Outcome, refused, done, after}
 use Rattle.telegram.specs.Telegram.{listed}
 use Rattle.telegram.proofs.Outcomes.{never, done-one}
 use Rattle.table.specs.Table.{row, rowOf, payloadFits, fitsRow, sizeRight, answerSizeOf}
-use Rattle.table.specs.declared.Casts.the-variants.{All, First}
+use Rattle.table.specs.declared.Casts.the-variants.{All, Single, First}
 use Rattle.table.specs.declared.Row.{Row}
 use Rattle.table.proofs.Keys.{member, NoneOf, elsewhere}
 
@@ -29,32 +29,56 @@ pub row-04-06 : (n : ℕ) → 2 ≤ n → 4 ≤ n → n < 7 → row All 0 0 ≡ 
 unfolding rowOf
 row-04-06 n l m h = simp (lt-leb n 1 l, lt-leb n 3 m, le-leb n 6 (omega arith))
 
+pub row-24-26 : (n : ℕ) → 0x24 ≤ n → n < 0x27 → row Single 0 2 ≡ rowOf n
+unfolding rowOf
+row-24-26 n l h =
+    simp (
+      lt-leb n 0x01 (omega arith),
+      lt-leb n 0x03 (omega arith),
+      lt-leb n 0x06 (omega arith),
+      ne-eqb n 0x07 (λ (e : n ≡ 0x07). omega arith),
+      ne-eqb n 0x0C (λ (e : n ≡ 0x0C). omega arith),
+      ne-eqb n 0x0D (λ (e : n ≡ 0x0D). omega arith),
+      le-leb 0x24 n l,
+      le-leb n 0x26 (omega arith),
+    )
+
 -- The numbers that stand in the table by themselves, the last first.
 abbrev pub keys : List ℕ
-keys = 0x4F ∷ 0x4E ∷ 0x4D ∷ 0x4C ∷ 0x4B ∷ 0x4A ∷ 0x48 ∷ 0x42 ∷ 0x40 ∷ 0x0D ∷ 0x0C ∷ 0x07 ∷ []
+keys = 0x6F ∷ 0x6D ∷ 0x6B ∷ 0x4F ∷ 0x4E ∷ 0x4D ∷ 0x4C ∷ 0x4B ∷ 0x4A ∷ 0x48 ∷ 0x42 ∷ 0x40 ∷ 0x2D ∷ 0x0D ∷ 0x0C ∷ 0x07 ∷ []
 
 -- The table has no row for a number: 6.
-absent : Outcome Row → Bool
+unfoldable pub absent : Outcome Row → Bool
 absent (refused n) = eqb n 6
 absent (done r) = false
 
-absent-is : (o : Outcome Row) → T (absent o) → refused 6 ≡ o
+pub absent-is : (o : Outcome Row) → T (absent o) → refused 6 ≡ o
 unfolding absent
 absent-is (refused n) t = ap refused (sym (eqb→eq n 6 t))
 absent-is (done r) t = absurd t
 
-T-or : (a b : Bool) → a ≡ false → T (a || b) → T b
+pub T-or : (a b : Bool) → a ≡ false → T (a || b) → T b
 T-or a b e t = subst (λ (x : Bool). T (x || b)) e t
 
--- A number past the ranges that does not stand by itself is unknown: one test at each byte.
-pub row-unknown : (n : ℕ) → n < 256 → 7 ≤ n → NoneOf keys n → refused 6 ≡ rowOf n
-unfolding rowOf absent
-row-unknown n h l k =
-    absent-is (rowOf n)
-    (T-or (leb n 6) (absent (rowOf n)) (lt-leb n 6 l) (elsewhere (λ (m : ℕ). leb m 6 || absent (rowOf m)) keys tt n h k))
+-- The numbers of the ranges.
+abbrev ranged : ℕ → Bool
+ranged n = leb n 0x06 || (leb 0x24 n && leb n 0x26)
 
--- The table has no row past 4F.
-pub row-high : (n : ℕ) → 0x4F < n → refused 6 ≡ rowOf n
+-- A number outside the ranges that does not stand by itself is unknown: one test at each byte.
+unranged-unknown : (n : ℕ) → n < 256 → ranged n ≡ false → NoneOf keys n → refused 6 ≡ rowOf n
+unfolding rowOf absent
+unranged-unknown n h r k =
+    absent-is (rowOf n)
+    (T-or (ranged n) (absent (rowOf n)) r (elsewhere (λ (m : ℕ). ranged m || absent (rowOf m)) keys tt n h k))
+
+pub row-between : (n : ℕ) → 7 ≤ n → n < 0x24 → NoneOf keys n → refused 6 ≡ rowOf n
+row-between n l h = unranged-unknown n (omega arith) (simp (lt-leb n 0x06 l, lt-leb 0x24 n h))
+
+pub row-behind : (n : ℕ) → n < 256 → 0x27 ≤ n → NoneOf keys n → refused 6 ≡ rowOf n
+row-behind n h l = unranged-unknown n h (simp (lt-leb n 0x06 (omega arith), le-leb 0x24 n (omega arith), lt-leb n 0x26 l))
+
+-- The table has no row past 6F.
+pub row-high : (n : ℕ) → 0x6F < n → refused 6 ≡ rowOf n
 unfolding rowOf
 row-high n h =
     simp (
@@ -64,6 +88,9 @@ row-high n h =
       past 0x07 (omega arith),
       past 0x0C (omega arith),
       past 0x0D (omega arith),
+      le-leb 0x24 n (omega arith),
+      lt-leb n 0x26 (omega arith),
+      past 0x2D (omega arith),
       past 0x40 (omega arith),
       past 0x42 (omega arith),
       past 0x48 (omega arith),
@@ -73,6 +100,9 @@ row-high n h =
       past 0x4D (omega arith),
       past 0x4E (omega arith),
       past 0x4F (omega arith),
+      past 0x6B (omega arith),
+      past 0x6D (omega arith),
+      past 0x6F (omega arith),
     )
   where
     past : (k : ℕ) → k < n → eqb n k ≡ false
@@ -83,16 +113,16 @@ carried : Outcome ℕ → Bool
 carried (refused n) = true
 carried (done k) = listed k
 
--- A number for whose answer the table has a size is at most 4F, and a telegram may carry that many bytes: one test at each number.
-pub answer-listed : (n k : ℕ) → answerSizeOf n ≡ done k → (n ≤ 0x4F) × (listed k ≡ true)
+-- A number for whose answer the table has a size is at most 6F, and a telegram may carry that many bytes: one test at each number.
+pub answer-listed : (n k : ℕ) → answerSizeOf n ≡ done k → (n ≤ 0x6F) × (listed k ≡ true)
 unfolding rowOf carried
 answer-listed n k e =
-    let low : n ≤ 0x4F = go (ltb 0x4F n) refl in
-    (low, T-true (listed k) (subst (λ (o : Outcome ℕ). T (carried o)) e (at (λ (m : ℕ). carried (answerSizeOf m)) 0x50 tt n (omega arith))))
+    let low : n ≤ 0x6F = go (ltb 0x6F n) refl in
+    (low, T-true (listed k) (subst (λ (o : Outcome ℕ). T (carried o)) e (at (λ (m : ℕ). carried (answerSizeOf m)) 0x70 tt n (omega arith))))
   where
-    go : (b : Bool) → ltb 0x4F n ≡ b → n ≤ 0x4F
-    go true h = absurd (never (ap (λ (o : Outcome Row). after o (λ (r : Row). done (r .answer))) (row-high n (ltb-true 0x4F n h)) ∙ e))
-    go false h = ltb-false 0x4F n h
+    go : (b : Bool) → ltb 0x6F n ≡ b → n ≤ 0x6F
+    go true h = absurd (never (ap (λ (o : Outcome Row). after o (λ (r : Row). done (r .answer))) (row-high n (ltb-true 0x6F n h)) ∙ e))
+    go false h = ltb-false 0x6F n h
 
 -- The size that the table has for a number k is the one it has for n, where n is k.
 pub sized : {n k x : ℕ} (size : ℕ → Outcome ℕ) (j : ℕ) → n ≡ k → size k ≡ done j → size n ≡ done x → x ≡ j
@@ -115,14 +145,14 @@ right-row n x h = in-row (rowOf n) x h
 pub row-right : (n x : ℕ) (r : Row) → rowOf n ≡ done r → payloadFits r x ≡ true → sizeRight n x ≡ true
 row-right n x r e f = ap (λ (o : Outcome Row). fitsRow o x) e ∙ f
 
--- A number that a list of numbers has not, and that a test of what the table has for it does not exclude, is the only one left:
--- one test at each byte.
-pub only-left : {A : Type 0} (excluded : Outcome A → Bool) (entry : ℕ → Outcome A) (ks : List ℕ) (k : ℕ)
-    → T (below (λ (m : ℕ). member m ks || (excluded (entry m) || eqb m k)) 256)
-    → (n : ℕ) → n < 256 → NoneOf ks n → excluded (entry n) ≡ false → n ≡ k
-only-left excluded entry ks k t n h no-key e =
-    eqb→eq n k
-    (T-or (excluded (entry n)) (eqb n k) e (elsewhere (λ (m : ℕ). excluded (entry m) || eqb m k) ks t n h no-key))
+-- The numbers left that a list of numbers has not, and that a test of what the table has for them does not exclude, all pass a test: one
+-- test at each byte.
+pub only-left : {A : Type 0} (excluded : Outcome A → Bool) (entry : ℕ → Outcome A) (ks : List ℕ) (passes : ℕ → Bool)
+    → T (below (λ (m : ℕ). member m ks || (excluded (entry m) || passes m)) 256)
+    → (n : ℕ) → n < 256 → NoneOf ks n → excluded (entry n) ≡ false → passes n ≡ true
+only-left excluded entry ks passes t n h no-key e =
+    T-true (passes n)
+    (T-or (excluded (entry n)) (passes n) e (elsewhere (λ (m : ℕ). excluded (entry m) || passes m) ks t n h no-key))
 
 -- The part of a slice behind its first three bytes that is lent has as many bytes as were asked for.
 part-length : (s : List ℕ) (k j : ℕ) → k ≡ j → 3 + k ≤ length s → j ≡ length (take (3 + k - 3) (drop 3 s))

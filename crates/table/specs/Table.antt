@@ -1,7 +1,8 @@
--- Document 01, "Commands", the table: casts, payload bytes and answer bytes of each number.
+-- Document 01, "Commands", the table: casts, payload bytes and answer bytes of each number. Document 02, request 02: the acknowledged
+-- commands.
 -- Assumes nothing.
-use Prim.Native.Nat.{ℕ}
-use mathlib.Core.Bool.{Bool, true, false, cond}
+use Prim.Native.Nat.{ℕ, _-_}
+use mathlib.Core.Bool.{Bool, true, false, cond, _&&_, _||_}
 use lib.Dec.{eqb, leb}
 use Rattle.telegram.specs.Numbers.{Outcome, refused, done, after}
 use Rattle.table.specs.declared.Casts.{Casts}
@@ -25,6 +26,8 @@ rowOf n =
     (cond (eqb n 0x07) (row Single 0 4)  -- IDENTIFY
     (cond (eqb n 0x0C) (row Single 0 2)  -- READMULT
     (cond (eqb n 0x0D) (row All 2 0)  -- SETMULT
+    (cond (leb 0x24 n && leb n 0x26) (row Single 0 2)  -- GOSLEEP, GOACTIVE, GODEEPSLEEP, acknowledged
+    (cond (eqb n 0x2D) (row Single 2 2)  -- SETMULT, acknowledged
     (cond (eqb n 0x40) (row Single 0 1)  -- READSTATUS
     (cond (eqb n 0x42) (row Single 0 2)  -- READTEMPST
     (cond (eqb n 0x48) (row Single 0 1)  -- READTEMP
@@ -34,7 +37,18 @@ rowOf n =
     (cond (eqb n 0x4D) (row All 1 0)  -- SETSETUP
     (cond (eqb n 0x4E) (row Single 0 6)  -- READPWM
     (cond (eqb n 0x4F) (row All 6 0)  -- SETPWM
-    (refused 6)))))))))))))))
+    (cond (eqb n 0x6B) (row Single 3 2)  -- SETOTTH, acknowledged
+    (cond (eqb n 0x6D) (row Single 1 2)  -- SETSETUP, acknowledged
+    (cond (eqb n 0x6F) (row Single 6 2)  -- SETPWM, acknowledged
+    (refused 6))))))))))))))))))))
+
+-- The acknowledged commands: 24, 25, 26, 2D, 6B, 6D and 6F.
+unfoldable pub acknowledged : ℕ → Bool
+acknowledged n = (leb 0x24 n && leb n 0x26) || (eqb n 0x2D || (eqb n 0x6B || (eqb n 0x6D || eqb n 0x6F)))
+
+-- The number of a command's plain form: of an acknowledged one it is without bit 5, which counts hex 20; of any other its own.
+unfoldable pub plainNumber : ℕ → ℕ
+plainNumber n = cond (acknowledged n) (n - 0x20) n
 
 -- The code's answer for a number: a row of the table, or unknown, which is 6.
 abbrev pub entryAs : Entry → Outcome Row

@@ -2,7 +2,7 @@
 use telegram::Address;
 ghost use mathlib.Core.Path.{_≡_};
 ghost use Rattle.table.specs.Casts.{destination, destinationAs, addressOf, castInRange};
-ghost use Rattle.table.specs.Table.{rowOf, entryAs, castListed, payloadFits, listsCast};
+ghost use Rattle.table.specs.Table.{rowOf, entryAs, acknowledged, plainNumber, castListed, payloadFits, listsCast};
 
 // The table's column of casts: all three; one lamp; a first address or everyone.
 pub enum Casts {
@@ -49,6 +49,8 @@ pub fn row_of(command: u8) -> Entry
         0x07 => known(Casts::Single, 0, 4),
         0x0C => known(Casts::Single, 0, 2),
         0x0D => known(Casts::All, 2, 0),
+        0x24..=0x26 => known(Casts::Single, 0, 2),
+        0x2D => known(Casts::Single, 2, 2),
         0x40 => known(Casts::Single, 0, 1),
         0x42 => known(Casts::Single, 0, 2),
         0x48 => known(Casts::Single, 0, 1),
@@ -58,6 +60,9 @@ pub fn row_of(command: u8) -> Entry
         0x4D => known(Casts::All, 1, 0),
         0x4E => known(Casts::Single, 0, 6),
         0x4F => known(Casts::All, 6, 0),
+        0x6B => known(Casts::Single, 3, 2),
+        0x6D => known(Casts::Single, 1, 2),
+        0x6F => known(Casts::Single, 6, 2),
         _ => Entry::Unknown,
     }
 }
@@ -71,6 +76,25 @@ fn known(casts: Casts, payload: usize, answer: usize) -> Entry
         payload,
         answer,
     })
+}
+
+// Whether a number is an acknowledged command's.
+pub fn is_acknowledged(n: u8) -> bool
+    ensures { λ r. ⌜ r ≡ acknowledged n ⌝ }
+{
+    let go = bits::and(0x24 <= n, n <= 0x26);
+    let set = bits::or(n == 0x6B, bits::or(n == 0x6D, n == 0x6F));
+    bits::or(go, bits::or(n == 0x2D, set))
+}
+
+// The number of a command's plain form.
+pub fn plain_number(n: u8) -> u8
+    ensures { λ r. ⌜ r ≡ plainNumber n ⌝ }
+{
+    if is_acknowledged(n) {
+        return n - 0x20;
+    }
+    n
 }
 
 // Whether the table's column lists a cast.

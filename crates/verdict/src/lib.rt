@@ -1,37 +1,68 @@
-// What a telegram is: a command or an answer, in words, or refused as both.
+// What a telegram is: a command, an answer or either, in words, or refused as both.
 use answer::AnswerDissection;
 use command::Dissection;
 use words::Message;
 
-// A command, an answer, or the numbers of its refusals as a command and as an answer.
+// A command, an answer, either of them, or the numbers of its refusals as a command and as an answer.
 pub enum Verdict {
     Sent,
     Given,
+    Either,
     Refused(u8, u8),
 }
 
-fn judge_answer(s: &[u8], number: u8) -> Verdict {
+// The number of a telegram's refusal as a command, 0 for none.
+fn number_sent(s: &[u8]) -> u8 {
+    let d = command::dissect(s);
+    match d {
+        Dissection::Accepted(_) => 0,
+        Dissection::Refused(e) => telegram::refusal_number(e),
+    }
+}
+
+// The number of its refusal as an answer.
+fn number_given(s: &[u8]) -> u8 {
     let d = answer::dissect_answer(s);
     match d {
-        AnswerDissection::Accepted(_) => Verdict::Given,
-        AnswerDissection::Refused(e) => Verdict::Refused(number, telegram::refusal_number(e)),
+        AnswerDissection::Accepted(_) => 0,
+        AnswerDissection::Refused(e) => telegram::refusal_number(e),
     }
+}
+
+// Whether the command in a telegram is acknowledged. Any other that is answered has no payload, so that it is no answer itself.
+fn is_acknowledged(s: &[u8]) -> bool {
+    table::is_acknowledged(text::byte_at(s, 2) % 128)
 }
 
 // What the bytes of one telegram are.
 pub fn judge(s: &[u8]) -> Verdict {
-    let d = command::dissect(s);
-    match d {
-        Dissection::Accepted(_) => Verdict::Sent,
-        Dissection::Refused(e) => judge_answer(s, telegram::refusal_number(e)),
+    let sent = number_sent(s);
+    if bits::and(sent == 0, !is_acknowledged(s)) {
+        return Verdict::Sent;
     }
+    let given = number_given(s);
+    if bits::and(sent == 0, given == 0) {
+        return Verdict::Either;
+    }
+    if sent == 0 {
+        return Verdict::Sent;
+    }
+    if given == 0 {
+        return Verdict::Given;
+    }
+    Verdict::Refused(sent, given)
 }
 
-// Appends the words of a telegram that is accepted; `m` has its numbers.
+// Appends the words of a telegram that is accepted, of one that is either both; `m` has its numbers.
 pub fn put_words(out: &mut [u8], at: usize, book: &[u8], v: Verdict, m: Message) -> usize {
     match v {
         Verdict::Sent => words::put_command(out, at, book, m),
         Verdict::Given => words::put_answer(out, at, book, m),
+        Verdict::Either => {
+            let a = words::put_command(out, at, book, m);
+            let b = text::put(out, a, b", or ");
+            words::put_answer(out, b, book, m)
+        }
         Verdict::Refused(_, _) => at,
     }
 }

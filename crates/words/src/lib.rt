@@ -191,7 +191,7 @@ fn put_colours(out: &mut [u8], at: usize, b: [u8; 8]) -> usize {
     put_pwm(out, c, b", blue day ", b", blue night ", b[4], b[5])
 }
 
-// What the bytes of a payload say, of a command or of an answer, by its number.
+// What the bytes of a payload say: of a command by the number of its plain form, of an answer by its own.
 fn payload_told(number: u8, b: [u8; 8]) -> Told {
     let first = b[0] as u64;
     let second = b[1] as u64;
@@ -203,7 +203,7 @@ fn payload_told(number: u8, b: [u8; 8]) -> Told {
         0x07 => values_told(texts::IDENTITY, word, bits::word(b[2], b[3]) as u64, 0, 0),
         0x40 => values_told(texts::STATUS, first, first, first, first),
         0x48 => values_told(texts::TEMPERATURE, first, 0, 0, 0),
-        // 02, 03 and 42, the other answers
+        // 02, 03, 42 and the acknowledged commands, the other answers
         _ => Told {
             row: texts::REPORT,
             values: [first, second, second, second, second, 0, 0, 0],
@@ -211,14 +211,14 @@ fn payload_told(number: u8, b: [u8; 8]) -> Told {
     }
 }
 
-// Appends what a payload says; nothing where it has no bytes.
-fn put_payload(out: &mut [u8], at: usize, book: &[u8], m: Message) -> usize {
+// Appends what a payload says, by a number; nothing where it has no bytes.
+fn put_payload(out: &mut [u8], at: usize, book: &[u8], number: u8, m: Message) -> usize {
     let payload = m.payload;
     let size = m.size;
     match size {
         0 => at,
         6 => put_colours(out, at, payload),
-        _ => put_told(out, at, book, payload_told(m.number, payload), b""),
+        _ => put_told(out, at, book, payload_told(number, payload), b""),
     }
 }
 
@@ -270,12 +270,12 @@ fn put_cast(out: &mut [u8], at: usize, book: &[u8], m: Message) -> usize {
 // Appends a command in words.
 pub fn put_command(out: &mut [u8], at: usize, book: &[u8], m: Message) -> usize {
     let a = put_cast(out, at, book, m);
-    put_payload(out, a, book, m)
+    put_payload(out, a, book, table::plain_number(m.number), m)
 }
 
 // Appends an answer in words.
 pub fn put_answer(out: &mut [u8], at: usize, book: &[u8], m: Message) -> usize {
     let told = values_told(texts::ANSWERS, m.address as u64, m.number as u64, 0, 0);
     let a = put_told(out, at, book, told, b"");
-    put_payload(out, a, book, m)
+    put_payload(out, a, book, m.number, m)
 }

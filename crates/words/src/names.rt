@@ -21,6 +21,10 @@ pub fn row_of(number: u8) -> u8 {
         0x00..=0x07 => number,
         0x0C => 8,
         0x0D => 9,
+        0x24 => 19,
+        0x25 => 20,
+        0x26 => 21,
+        0x2D => 22,
         0x40 => 10,
         0x42 => 11,
         0x48 => 12,
@@ -30,11 +34,14 @@ pub fn row_of(number: u8) -> u8 {
         0x4D => 16,
         0x4E => 17,
         0x4F => 18,
-        _ => 19,
+        0x6B => 23,
+        0x6D => 24,
+        0x6F => 25,
+        _ => 26,
     }
 }
 
-// Appends name k of the book: commands from 0 on, states from 20, directions from 24, modes from 26, words for nothing from 28, from 32 on
+// Appends name k of the book: commands from 0 on, states from 28, directions from 32, modes from 34, words for nothing from 36, from 40 on
 // four forms of each flag, as text and behind another, as JSON and behind another.
 pub(crate) fn put_name(out: &mut [u8], at: usize, book: &[u8], k: u8) -> usize {
     let start = NAMES_AT + k as usize * 16;
@@ -64,8 +71,8 @@ fn is_name(book: &[u8], word: &[u8], number: u8) -> bool {
 // The command that a name says.
 pub fn command_named(book: &[u8], word: &[u8]) -> Named {
     let mut number: u8 = 0;
-    while number < 0x50 {
-        if row_of(number) < 19 {
+    while number < 0x80 {
+        if row_of(number) < 26 {
             if is_name(book, word, number) {
                 return Named::Command(number);
             }
@@ -79,13 +86,13 @@ pub fn command_named(book: &[u8], word: &[u8]) -> Named {
 fn name_for(letter: u8, n: u8) -> u8 {
     match letter {
         b'c' => row_of(n),
-        b's' | b'S' => 20 + n / 64,
-        b'm' | b'M' => 24 + n / 16 % 2,
+        b's' | b'S' => 28 + n / 64,
+        b'm' | b'M' => 32 + n / 16 % 2,
         _ => {
             if n == 0 {
-                return 26;
+                return 34;
             }
-            27
+            35
         }
     }
 }
@@ -133,7 +140,7 @@ fn put_flag(
             out,
             at,
             book,
-            32 + bit % 8 * 4 + form_of(at != start, json) % 4,
+            40 + bit % 8 * 4 + form_of(at != start, json) % 4,
         );
     }
     at
@@ -200,9 +207,9 @@ fn put_items(out: &mut [u8], at: usize, book: &[u8], letter: u8, n: u64) -> usiz
 // The name that stands where there is no flag or no group: "no flags", "none", or in JSON nothing.
 fn none_for(letter: u8) -> u8 {
     match letter {
-        b'n' => 29,
-        b'f' | b'g' => 28,
-        _ => 30,
+        b'n' => 37,
+        b'f' | b'g' => 36,
+        _ => 38,
     }
 }
 

@@ -69,16 +69,22 @@ pub const JSON_CAPTURED: u8 = 31;
 pub const STOPPED: u8 = 32;
 
 pub const JSON_STOPPED: u8 = 33;
+
+pub const EITHER: u8 = 34;
+
+pub const JSON_EITHER: u8 = 35;
 // .. and of one that is listed.
-pub const LISTED: u8 = 34;
+pub const LISTED: u8 = 36;
 
-pub const NEITHER: u8 = 35;
+pub const NEITHER: u8 = 37;
 
-pub const JSON_LISTED: u8 = 36;
+pub const JSON_LISTED: u8 = 38;
 
-pub const JSON_ANSWERS: u8 = 37;
+pub const JSON_ANSWERS: u8 = 39;
 
-pub const JSON_NEITHER: u8 = 38;
+pub const JSON_OR_ANSWERS: u8 = 40;
+
+pub const JSON_NEITHER: u8 = 41;
 
 // Where the names begin in the book: behind room for 48 forms.
 pub const NAMES_AT: usize = 3072;
@@ -122,10 +128,13 @@ position %d: refused %d: %r\n%;                                |
 {\"position\":%d,\"tx\":\"%x\"%;                                    |
 capture stopped at position %d: refused %d: %r\n%;             |
 {\"stopped\":%d,\"number\":%d,\"refusal\":\"%r\"}\n%;                  |
+ (or an answer of %a; done as a command)%;                    |
+,\"either\":true%;                                              |
  %X%>%;                                                       |
 neither: as a command refused %d, as an answer refused %d%;   |
 {\"position\":%d,\"bytes\":\"%x\"%;                                 |
 ,\"number\":0,\"answers\":\"%c\"%;                                  |
+,\"answers\":\"%c\"%;                                             |
 ,\"number\":0,\"as_command\":%d,\"as_answer\":%d}\n%;                |
 ",
     )
@@ -140,7 +149,9 @@ fn put_names(out: &mut [u8]) -> usize {
 gosleep|        goactive|       godeepsleep|    identify|     |
 readmult|       setmult|        readstatus|     readtempst|   |
 readtemp|       readotth|       setotth|        readsetup|    |
-setsetup|       readpwm|        setpwm|         unknown|      |
+setsetup|       readpwm|        setpwm|         gosleep_sr|   |
+goactive_sr|    godeepsleep_sr| setmult_sr|     setotth_sr|   |
+setsetup_sr|    setpwm_sr|      unknown|        |             |
 UNINITIALIZED|  SLEEP|          ACTIVE|         DEEPSLEEP|    |
 bidir|          loop|           night|          day|          |
 none|           no flags|       |               |             |

@@ -64,7 +64,11 @@ fn made(check: &mut Checker, random: &mut Random, count: usize) -> Result<Vec<u8
 }
 
 /// A made chain, numbered by an init that fits.
-fn numbered(check: &mut Checker, random: &mut Random, count: usize) -> Result<Vec<u8>, String> {
+pub(crate) fn numbered(
+    check: &mut Checker,
+    random: &mut Random,
+    count: usize,
+) -> Result<Vec<u8>, String> {
     let mut record = made(check, random, count)?;
     let first = random.between(1, 0x3F0 - count as u32);
     let init = fitting(first, random.between(2, 3), &[]);
@@ -145,6 +149,7 @@ fn every_status(check: &mut Checker, random: &mut Random) -> Outcome {
                 let mut record = record.clone();
                 let at = slot(random.below(2));
                 record[at + 2] = status;
+                record[at + 3] = random.byte();
                 record[at + 8..at + 16].copy_from_slice(&random.bytes(8));
                 put_address(&mut record, 0, 1);
                 put_address(&mut record, 1, 2);

@@ -27,7 +27,7 @@ pub fn lamps(record: &[u8]) -> usize {
 }
 
 /// The address at a place, as far as the record goes.
-fn address_at(record: &[u8], place: usize) -> Option<u32> {
+pub fn address_at(record: &[u8], place: usize) -> Option<u32> {
     let bytes = record.get(slot(place)..slot(place) + 2)?;
     Some(u32::from(bytes[0]) << 8 | u32::from(bytes[1]))
 }
@@ -86,7 +86,7 @@ pub fn place(count: usize, random: &mut Random) -> usize {
 }
 
 /// The address of a lamp of the chain, or of nobody.
-fn somebody(record: &[u8], random: &mut Random) -> u32 {
+pub fn somebody(record: &[u8], random: &mut Random) -> u32 {
     let place = place(lamps(record), random);
     address_at(record, place)
         .filter(|address| (1..=LAST).contains(address) && random.below(8) > 0)

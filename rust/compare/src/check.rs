@@ -69,6 +69,7 @@ pub struct Checker {
     counts: [u64; FUNCTIONS.len()],
     round_trips: u64,
     captures: u64,
+    acknowledged: u64,
 }
 
 impl Checker {
@@ -79,6 +80,7 @@ impl Checker {
             counts: [0; FUNCTIONS.len()],
             round_trips: 0,
             captures: 0,
+            acknowledged: 0,
         }
     }
 
@@ -146,6 +148,11 @@ impl Checker {
         self.captures += 1;
     }
 
+    /// Counts an acknowledged command that was held against its plain form.
+    pub fn command_acknowledged(&mut self) {
+        self.acknowledged += 1;
+    }
+
     /// The calls compared so far.
     pub fn total(&self) -> u64 {
         self.counts.iter().sum()
@@ -169,6 +176,11 @@ impl Checker {
     /// The captures that were read in chunks.
     pub fn captures(&self) -> u64 {
         self.captures
+    }
+
+    /// The acknowledged commands that were held against their plain forms.
+    pub fn acknowledged(&self) -> u64 {
+        self.acknowledged
     }
 }
 

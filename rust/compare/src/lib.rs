@@ -7,6 +7,8 @@
 //! - [`suites`]: the inputs that are compared.
 //! - [`chains`]: chains and what is given to them.
 //! - [`chain_suites`]: the calls on chains that are compared.
+//! - [`acknowledged`]: acknowledged commands, compared and held against their plain
+//!   forms.
 //! - [`captures`]: captures, how they are cut, and states of their reader.
 //! - [`capture_suites`]: the calls on the reader of captures that are compared.
 //! - [`lists`]: demand 3 of document 01, tried on the library alone.
@@ -19,6 +21,7 @@
 //! - [`callgrind`]: how many instructions a program takes.
 //! - [`arguments`]: what a program is called with, and how it ends.
 
+pub mod acknowledged;
 pub mod arena;
 pub mod arguments;
 pub mod callgrind;

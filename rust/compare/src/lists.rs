@@ -43,6 +43,8 @@ pub struct Tally {
     pub trades: u64,
     /// Telegrams that were nobody's.
     pub nobodys: u64,
+    /// Acknowledged commands of lists that a lamp answered.
+    pub acknowledged: u64,
 }
 
 /// The record with which a list begins: made, then numbered by one init.
@@ -152,7 +154,10 @@ impl Start {
         tally: &mut Tally,
     ) -> Result<Given, String> {
         if self.owner(delivery).is_some() {
-            return Ok(deliver(record, delivery, tally));
+            let given = deliver(record, delivery, tally);
+            let answered = given.result > 255;
+            tally.acknowledged += u64::from(delivery.is_acknowledged() && answered);
+            return Ok(given);
         }
         let before = record.to_vec();
         let given = deliver(record, delivery, tally);
@@ -254,8 +259,8 @@ fn may_trade(one: &Delivery, other: &Delivery) -> bool {
     matches!((one.address, other.address), (Ok(one), Ok(other)) if one != other)
 }
 
-/// Every field of the lamp at a place.
-fn fields(record: &[u8], place: usize) -> Result<Vec<u8>, String> {
+/// Every field of the lamp at a place, as the library reads it out.
+pub(crate) fn fields(record: &[u8], place: usize) -> Result<Vec<u8>, String> {
     let mut room = vec![FILL; 18];
     match (LIBRARY.lamp)(record, place as u32, &mut room) {
         0x1200 => Ok(room),

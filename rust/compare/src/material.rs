@@ -13,7 +13,7 @@ pub struct Known {
 }
 
 /// Every known command.
-pub const KNOWN: [Known; 19] = [
+pub const KNOWN: [Known; 26] = [
     known(0x00, 0, None),
     known(0x01, 0, None),
     known(0x02, 0, Some(2)),
@@ -24,6 +24,10 @@ pub const KNOWN: [Known; 19] = [
     known(0x07, 0, Some(4)),
     known(0x0C, 0, Some(2)),
     known(0x0D, 2, None),
+    known(0x24, 0, Some(2)),
+    known(0x25, 0, Some(2)),
+    known(0x26, 0, Some(2)),
+    known(0x2D, 2, Some(2)),
     known(0x40, 0, Some(1)),
     known(0x42, 0, Some(2)),
     known(0x48, 0, Some(1)),
@@ -33,7 +37,13 @@ pub const KNOWN: [Known; 19] = [
     known(0x4D, 1, None),
     known(0x4E, 0, Some(6)),
     known(0x4F, 6, None),
+    known(0x6B, 3, Some(2)),
+    known(0x6D, 1, Some(2)),
+    known(0x6F, 6, Some(2)),
 ];
+
+/// The bit of a number that makes a command an acknowledged one.
+const STATUS_REQUEST: u32 = 0x20;
 
 const fn known(number: u32, payload: usize, answer: Option<usize>) -> Known {
     Known {
@@ -47,6 +57,16 @@ impl Known {
     /// Whether the command numbers the lamps.
     pub fn is_init(&self) -> bool {
         matches!(self.number, 2 | 3)
+    }
+
+    /// Whether this is the acknowledged form of a command.
+    pub fn is_acknowledged(&self) -> bool {
+        self.number & STATUS_REQUEST != 0
+    }
+
+    /// The number of the form that nobody acknowledges.
+    pub fn plain(&self) -> u32 {
+        self.number & !STATUS_REQUEST
     }
 
     /// The casts that the command has, and a value for each.
@@ -68,9 +88,17 @@ pub const CLRERROR: u32 = 0x01;
 pub const INITBIDIR: u32 = 0x02;
 pub const GOACTIVE: u32 = 0x05;
 pub const SETMULT: u32 = 0x0D;
+pub const GOACTIVE_SR: u32 = 0x25;
+pub const SETMULT_SR: u32 = 0x2D;
 pub const READSTATUS: u32 = 0x40;
 pub const READTEMPST: u32 = 0x42;
 pub const SETPWM: u32 = 0x4F;
+pub const SETSETUP_SR: u32 = 0x6D;
+
+/// The acknowledged commands.
+pub fn acknowledged() -> impl Iterator<Item = Known> {
+    KNOWN.into_iter().filter(Known::is_acknowledged)
+}
 
 /// The payload sizes that exist.
 pub const SIZES: [usize; 7] = [0, 1, 2, 3, 4, 6, 8];

@@ -1,7 +1,7 @@
 //! A program that is called beside the second implementation, and the comparison
 //! of what the two print.
 
-use reference::replay::{status, Failure};
+use reference::replay::{errors, status, Ending, Failure};
 use std::fs::{self, File};
 use std::io::{self, Write};
 use std::path::{Path, PathBuf};
@@ -33,14 +33,10 @@ pub struct Printed {
 
 impl Printed {
     /// What a subcommand prints that printed this output and ended so.
-    pub fn of(subcommand: &str, output: Vec<u8>, outcome: &Result<u64, Failure>) -> Printed {
-        let errors = match outcome {
-            Ok(_) => String::new(),
-            Err(failure) => format!("osp: {subcommand}: {failure}\n"),
-        };
+    pub fn of(subcommand: &str, output: Vec<u8>, outcome: &Result<Ending, Failure>) -> Printed {
         Printed {
             output,
-            errors: errors.into_bytes(),
+            errors: errors(subcommand, outcome).into_bytes(),
             status: Some(i32::from(status(outcome))),
         }
     }

@@ -2,7 +2,7 @@
 //! something of.
 
 use crate::captures::{tail, telegrams};
-use crate::chains::{command_for, init_for, lamps};
+use crate::chains::{command_for, init_for, lamps, somebody};
 use crate::material::*;
 use crate::random::Random;
 use crate::scripts::{made, refused};
@@ -24,6 +24,7 @@ pub fn edges(random: &mut Random) -> Vec<Vec<u8>> {
         damaged[size + 3] ^= random.between(1, 255) as u8;
         ends.extend([whole, damaged]);
     }
+    ends.extend(either(random));
     let longest = fitting(lamp(random), random.between(0, 127), &random.bytes(8));
     ends.extend((1..longest.len()).map(|size| longest[..size].to_vec()));
     for good in [good_command(random), good_answer(random)] {
@@ -47,6 +48,20 @@ pub fn edges(random: &mut Random) -> Vec<Vec<u8>> {
     edges
 }
 
+/// A telegram that is a command and an answer: to a lamp that init has numbered,
+/// alone and damaged; with a byte less and one more it is neither.
+fn either(random: &mut Random) -> [Vec<u8>; 5] {
+    let [short, whole, long] =
+        [1, 2, 3].map(|size| fitting(lamp(random), SETMULT_SR, &random.bytes(size)));
+    let mut damaged = whole.clone();
+    damaged[5] ^= random.between(1, 255) as u8;
+    let numbered = [
+        fitting(1, INITBIDIR, &[]),
+        fitting(1, SETMULT_SR, &[0, 0x40]),
+    ];
+    [numbered.concat(), whole, damaged, short, long]
+}
+
 /// Telegrams that have so many bytes.
 fn of_length(length: usize, random: &mut Random) -> Vec<u8> {
     let mut run = Vec::new();
@@ -62,8 +77,9 @@ fn of_length(length: usize, random: &mut Random) -> Vec<u8> {
     run
 }
 
-/// A random capture for a chain: telegrams that do something to it, some that it
-/// refuses, and at the end now and then what stops the reading.
+/// A random capture for a chain: telegrams that do something to it, the answers to
+/// some of them, some telegrams that it refuses, and at the end now and then what
+/// stops the reading.
 pub fn board(options: &Options, count: usize, random: &mut Random) -> Vec<u8> {
     let mut record = made(options);
     let mut run = Vec::new();
@@ -73,11 +89,24 @@ pub fn board(options: &Options, count: usize, random: &mut Random) -> Vec<u8> {
             1 => good_answer(random),
             2 => refused(random.pick(&BY_THE_CHAIN), random),
             3 => good(random),
+            4 => fitting(somebody(&record, random), SETMULT_SR, &random.bytes(2)),
             _ => command_for(&record, random),
         };
-        (REFERENCE.deliver)(&mut record, &telegram, &mut [0; 12]);
+        let answer = delivered(&mut record, &telegram);
         run.extend(telegram);
+        // A logger writes answers too, and then a replay delivers them.
+        if random.below(3) == 0 {
+            delivered(&mut record, &answer);
+            run.extend(answer);
+        }
     }
     run.extend(tail(random));
     run
+}
+
+/// The answer to a telegram, or no bytes.
+fn delivered(record: &mut [u8], telegram: &[u8]) -> Vec<u8> {
+    let mut room = [0; 12];
+    let count = (REFERENCE.deliver)(record, telegram, &mut room) / 256;
+    room[..count as usize].to_vec()
 }

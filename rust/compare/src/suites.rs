@@ -57,7 +57,9 @@ fn long_inputs(check: &mut Checker, random: &mut Random) -> Outcome {
         for size in SIZES {
             for length in [size, size + wrap] {
                 let payload = random.bytes(length);
-                for command in [0x00, 0x0D, 0x40, 0x4B, 0x4D, 0x4F] {
+                for command in [
+                    0x00, 0x0D, 0x25, 0x2D, 0x40, 0x4B, 0x4D, 0x4F, 0x6B, 0x6D, 0x6F,
+                ] {
                     let bytes = telegram(address(random), index_of(size), command, &payload);
                     let room = random.pick(&[12, wrap, wrap + 3, wrap + 12]);
                     readers(check, &bytes, room)?;

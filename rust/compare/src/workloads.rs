@@ -5,7 +5,8 @@
 
 use crate::chains::{slot, MOST};
 use crate::material::{destination, fitting, good, KNOWN};
-use crate::material::{CLRERROR, GOACTIVE, INITBIDIR, READSTATUS, RESET, SETMULT, SETPWM};
+use crate::material::{CLRERROR, GOACTIVE, GOACTIVE_SR, INITBIDIR, RESET, SETMULT, SETPWM};
+use crate::material::{READSTATUS, READTEMPST};
 use crate::random::Random;
 use reference::capture::reader::LENGTH;
 use reference::wire::{Side, REFERENCE};
@@ -178,7 +179,7 @@ fn chain(count: usize) -> Vec<u8> {
 
 /// The deliveries: to the last lamp, which is the farthest from the host, to
 /// everyone, to a group, and an init.
-fn deliveries() -> [Workload; 12] {
+fn deliveries() -> [Workload; 18] {
     let of = |name, repeats, count, address, command, payload: &[u8]| Workload {
         name,
         job: Job::Deliver {
@@ -194,6 +195,12 @@ fn deliveries() -> [Workload; 12] {
         of("last-readstatus-9", 5_000, 9, 9, READSTATUS, &[]),
         of("last-readstatus-300", 500, 300, 300, READSTATUS, &[]),
         of("last-readstatus-1007", 200, MOST, 1007, READSTATUS, &[]),
+        of("last-readtempst-9", 5_000, 9, 9, READTEMPST, &[]),
+        of("last-readtempst-300", 500, 300, 300, READTEMPST, &[]),
+        of("last-readtempst-1007", 200, MOST, 1007, READTEMPST, &[]),
+        of("last-goactive_sr-9", 5_000, 9, 9, GOACTIVE_SR, &[]),
+        of("last-goactive_sr-300", 500, 300, 300, GOACTIVE_SR, &[]),
+        of("last-goactive_sr-1007", 200, MOST, 1007, GOACTIVE_SR, &[]),
         of("all-goactive-1007", 200, MOST, 0, GOACTIVE, &[]),
         of("all-setpwm-1007", 200, MOST, 0, SETPWM, &WORDS),
         of("all-reset-1007", 200, MOST, 0, RESET, &[]),

@@ -28,12 +28,19 @@ pub enum Answer {
     InitLoop(Health),
     Identify(u32),
     ReadMult(u16),
+    GoSleepSr(Health),
+    GoActiveSr(Health),
+    GoDeepSleepSr(Health),
+    SetMultSr(Health),
     ReadStatus(u8),
     ReadTempSt(Health),
     ReadTemp(u8),
     ReadOtTh([u8; 3]),
     ReadSetup(u8),
     ReadPwm(Pwm),
+    SetOtThSr(Health),
+    SetSetupSr(Health),
+    SetPwmSr(Health),
 }
 
 impl Answer {
@@ -47,12 +54,19 @@ impl Answer {
             Name::InitLoop => health().map(Answer::InitLoop),
             Name::Identify => exact(payload).map(|four| Answer::Identify(u32::from_be_bytes(four))),
             Name::ReadMult => exact(payload).map(|two| Answer::ReadMult(u16::from_be_bytes(two))),
+            Name::GoSleepSr => health().map(Answer::GoSleepSr),
+            Name::GoActiveSr => health().map(Answer::GoActiveSr),
+            Name::GoDeepSleepSr => health().map(Answer::GoDeepSleepSr),
+            Name::SetMultSr => health().map(Answer::SetMultSr),
             Name::ReadStatus => byte().map(Answer::ReadStatus),
             Name::ReadTempSt => health().map(Answer::ReadTempSt),
             Name::ReadTemp => byte().map(Answer::ReadTemp),
             Name::ReadOtTh => exact(payload).map(Answer::ReadOtTh),
             Name::ReadSetup => byte().map(Answer::ReadSetup),
             Name::ReadPwm => exact(payload).map(|six| Answer::ReadPwm(Pwm::of_bytes(six))),
+            Name::SetOtThSr => health().map(Answer::SetOtThSr),
+            Name::SetSetupSr => health().map(Answer::SetSetupSr),
+            Name::SetPwmSr => health().map(Answer::SetPwmSr),
             _ => Err(Refusal::Unknown),
         }
     }
@@ -64,21 +78,35 @@ impl Answer {
             Answer::InitLoop(_) => Name::InitLoop,
             Answer::Identify(_) => Name::Identify,
             Answer::ReadMult(_) => Name::ReadMult,
+            Answer::GoSleepSr(_) => Name::GoSleepSr,
+            Answer::GoActiveSr(_) => Name::GoActiveSr,
+            Answer::GoDeepSleepSr(_) => Name::GoDeepSleepSr,
+            Answer::SetMultSr(_) => Name::SetMultSr,
             Answer::ReadStatus(_) => Name::ReadStatus,
             Answer::ReadTempSt(_) => Name::ReadTempSt,
             Answer::ReadTemp(_) => Name::ReadTemp,
             Answer::ReadOtTh(_) => Name::ReadOtTh,
             Answer::ReadSetup(_) => Name::ReadSetup,
             Answer::ReadPwm(_) => Name::ReadPwm,
+            Answer::SetOtThSr(_) => Name::SetOtThSr,
+            Answer::SetSetupSr(_) => Name::SetSetupSr,
+            Answer::SetPwmSr(_) => Name::SetPwmSr,
         }
     }
 
     /// The payload as it travels.
     pub fn payload(&self) -> Payload {
         match self {
-            Answer::InitBidir(health) | Answer::InitLoop(health) | Answer::ReadTempSt(health) => {
-                Payload::of(&[health.temperature, health.status])
-            }
+            Answer::InitBidir(health)
+            | Answer::InitLoop(health)
+            | Answer::ReadTempSt(health)
+            | Answer::GoSleepSr(health)
+            | Answer::GoActiveSr(health)
+            | Answer::GoDeepSleepSr(health)
+            | Answer::SetMultSr(health)
+            | Answer::SetOtThSr(health)
+            | Answer::SetSetupSr(health)
+            | Answer::SetPwmSr(health) => Payload::of(&[health.temperature, health.status]),
             Answer::Identify(identity) => Payload::of(&identity.to_be_bytes()),
             Answer::ReadMult(groups) => Payload::of(&groups.to_be_bytes()),
             Answer::ReadStatus(byte) | Answer::ReadTemp(byte) | Answer::ReadSetup(byte) => {
@@ -156,6 +184,7 @@ fn answers_from(name: Name, address: u16) -> bool {
 #[cfg(test)]
 mod tests {
     use super::*;
+    use crate::command::Order;
 
     fn dissect(bytes: &[u8]) -> Result<Reply, Refusal> {
         Reply::of_telegram(&Telegram::parse(bytes)?)
@@ -223,5 +252,49 @@ mod tests {
         assert_eq!(dissect_fields(0, 0x42, &[0, 0]), Err(Refusal::Cast));
         assert_eq!(dissect_fields(0x3F0, 0x02, &[0, 0]), Err(Refusal::Cast));
         assert!(dissect_fields(0x3EF, 0x42, &[0, 0]).is_ok());
+    }
+
+    #[test]
+    fn acknowledged_commands_are_answered_with_temperature_and_status() {
+        let health = Health::of_bytes([0x6B, 0x90]);
+        let answers = [
+            (0x24, Answer::GoSleepSr(health)),
+            (0x25, Answer::GoActiveSr(health)),
+            (0x26, Answer::GoDeepSleepSr(health)),
+            (0x2D, Answer::SetMultSr(health)),
+            (0x6B, Answer::SetOtThSr(health)),
+            (0x6D, Answer::SetSetupSr(health)),
+            (0x6F, Answer::SetPwmSr(health)),
+        ];
+        for (number, answer) in answers {
+            for address in [1, 0x3EF] {
+                let reply = dissect_fields(address, number, &[0x6B, 0x90]).unwrap();
+                assert_eq!(Ok(reply), Reply::new(answer, address as u16));
+            }
+            for address in [0, 0x3F0, 0x3FF] {
+                let reply = dissect_fields(address, number, &[0x6B, 0x90]);
+                assert_eq!(reply, Err(Refusal::Cast));
+            }
+            for size in [0, 1, 3, 4, 6, 8] {
+                let reply = dissect_fields(1, number, &[0x6B; 8][..size]);
+                assert_eq!(reply, Err(Refusal::PayloadSize));
+            }
+        }
+    }
+
+    #[test]
+    fn only_setmult_sr_is_a_command_and_an_answer() {
+        for number in 0..128 {
+            for (address, size) in [0, 1, 0x3EF, 0x3F0, 0x3FF]
+                .into_iter()
+                .flat_map(|address| [0, 1, 2, 3, 4, 6, 8].map(|size| (address, size)))
+            {
+                let payload = &[0x12; 8][..size];
+                let telegram = Telegram::new(address, number, payload).unwrap();
+                let both = Order::of_telegram(&telegram).is_ok() && heading(&telegram).is_ok();
+                let one_lamp = matches!(address, 1 | 0x3EF);
+                assert_eq!(both, number == 0x2D && size == 2 && one_lamp);
+            }
+        }
     }
 }

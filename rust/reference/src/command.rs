@@ -87,7 +87,8 @@ impl Cast {
 }
 
 /// A command with what it carries. The size of the payload follows from the
-/// type of the value.
+/// type of the value. An acknowledged command (`Sr`) carries what its plain form
+/// does.
 #[derive(Clone, Copy, Debug, PartialEq, Eq)]
 pub enum Command {
     Reset,
@@ -101,6 +102,10 @@ pub enum Command {
     ReadMult,
     /// The group word; bit g stands for group g, bit 15 for nothing.
     SetMult(u16),
+    GoSleepSr,
+    GoActiveSr,
+    GoDeepSleepSr,
+    SetMultSr(u16),
     ReadStatus,
     ReadTempSt,
     ReadTemp,
@@ -113,12 +118,18 @@ pub enum Command {
     ReadPwm,
     /// The three colours.
     SetPwm(Pwm),
+    SetOtThSr([u8; 3]),
+    SetSetupSr(u8),
+    SetPwmSr(Pwm),
 }
 
 impl Command {
     /// Reads a command's payload; refuses a wrong size with 8.
     pub fn of_payload(name: Name, payload: &[u8]) -> Result<Command, Refusal> {
         let bare = |command| exact(payload).map(|[]| command);
+        let word = || exact(payload).map(u16::from_be_bytes);
+        let byte = || exact(payload).map(|[byte]| byte);
+        let pwm = || exact(payload).map(Pwm::of_bytes);
         match name {
             Name::Reset => bare(Command::Reset),
             Name::ClrError => bare(Command::ClrError),
@@ -129,16 +140,23 @@ impl Command {
             Name::GoDeepSleep => bare(Command::GoDeepSleep),
             Name::Identify => bare(Command::Identify),
             Name::ReadMult => bare(Command::ReadMult),
-            Name::SetMult => exact(payload).map(|word| Command::SetMult(u16::from_be_bytes(word))),
+            Name::SetMult => word().map(Command::SetMult),
+            Name::GoSleepSr => bare(Command::GoSleepSr),
+            Name::GoActiveSr => bare(Command::GoActiveSr),
+            Name::GoDeepSleepSr => bare(Command::GoDeepSleepSr),
+            Name::SetMultSr => word().map(Command::SetMultSr),
             Name::ReadStatus => bare(Command::ReadStatus),
             Name::ReadTempSt => bare(Command::ReadTempSt),
             Name::ReadTemp => bare(Command::ReadTemp),
             Name::ReadOtTh => bare(Command::ReadOtTh),
             Name::SetOtTh => exact(payload).map(Command::SetOtTh),
             Name::ReadSetup => bare(Command::ReadSetup),
-            Name::SetSetup => exact(payload).map(|[setup]| Command::SetSetup(setup)),
+            Name::SetSetup => byte().map(Command::SetSetup),
             Name::ReadPwm => bare(Command::ReadPwm),
-            Name::SetPwm => exact(payload).map(|six| Command::SetPwm(Pwm::of_bytes(six))),
+            Name::SetPwm => pwm().map(Command::SetPwm),
+            Name::SetOtThSr => exact(payload).map(Command::SetOtThSr),
+            Name::SetSetupSr => byte().map(Command::SetSetupSr),
+            Name::SetPwmSr => pwm().map(Command::SetPwmSr),
         }
     }
 
@@ -155,6 +173,10 @@ impl Command {
             Command::Identify => Name::Identify,
             Command::ReadMult => Name::ReadMult,
             Command::SetMult(_) => Name::SetMult,
+            Command::GoSleepSr => Name::GoSleepSr,
+            Command::GoActiveSr => Name::GoActiveSr,
+            Command::GoDeepSleepSr => Name::GoDeepSleepSr,
+            Command::SetMultSr(_) => Name::SetMultSr,
             Command::ReadStatus => Name::ReadStatus,
             Command::ReadTempSt => Name::ReadTempSt,
             Command::ReadTemp => Name::ReadTemp,
@@ -164,16 +186,23 @@ impl Command {
             Command::SetSetup(_) => Name::SetSetup,
             Command::ReadPwm => Name::ReadPwm,
             Command::SetPwm(_) => Name::SetPwm,
+            Command::SetOtThSr(_) => Name::SetOtThSr,
+            Command::SetSetupSr(_) => Name::SetSetupSr,
+            Command::SetPwmSr(_) => Name::SetPwmSr,
         }
     }
 
     /// The payload as it travels.
     pub fn payload(&self) -> Payload {
         match self {
-            Command::SetMult(groups) => Payload::of(&groups.to_be_bytes()),
-            Command::SetOtTh(thresholds) => Payload::of(thresholds),
-            Command::SetSetup(setup) => Payload::of(&[*setup]),
-            Command::SetPwm(pwm) => Payload::of(&pwm.bytes()),
+            Command::SetMult(groups) | Command::SetMultSr(groups) => {
+                Payload::of(&groups.to_be_bytes())
+            }
+            Command::SetOtTh(thresholds) | Command::SetOtThSr(thresholds) => {
+                Payload::of(thresholds)
+            }
+            Command::SetSetup(setup) | Command::SetSetupSr(setup) => Payload::of(&[*setup]),
+            Command::SetPwm(pwm) | Command::SetPwmSr(pwm) => Payload::of(&pwm.bytes()),
             _ => Payload::of(&[]),
         }
     }

@@ -15,7 +15,7 @@ use crate::answer::Reply;
 use crate::capture::{self, Stand};
 use crate::command::Order;
 use crate::replay::page::Page;
-use crate::replay::Failure;
+use crate::replay::{Ending, Failure};
 use crate::telegram::Telegram;
 use crate::Refusal;
 use fault::Fault;
@@ -33,19 +33,22 @@ pub struct Options {
 enum Meaning {
     Command(Order),
     Answer(Reply),
+    /// Nothing in it tells which of the two it is.
+    Either(Order, Reply),
     /// Why it is no command, and why no answer.
     Neither(Refusal, Refusal),
 }
 
 impl Meaning {
-    /// Takes a telegram as a command, and as an answer where it is none.
+    /// Takes a telegram as a command and as an answer.
     fn of(bytes: &[u8]) -> Meaning {
         let telegram = Telegram::parse(bytes);
         let order = telegram.and_then(|telegram| Order::of_telegram(&telegram));
         let reply = telegram.and_then(|telegram| Reply::of_telegram(&telegram));
         match (order, reply) {
-            (Ok(order), _) => Meaning::Command(order),
-            (_, Ok(reply)) => Meaning::Answer(reply),
+            (Ok(order), Ok(reply)) => Meaning::Either(order, reply),
+            (Ok(order), Err(_)) => Meaning::Command(order),
+            (Err(_), Ok(reply)) => Meaning::Answer(reply),
             (Err(as_command), Err(as_answer)) => Meaning::Neither(as_command, as_answer),
         }
     }
@@ -56,6 +59,7 @@ impl Meaning {
 struct Tally {
     commands: u64,
     answers: u64,
+    either: u64,
     neither: u64,
 }
 
@@ -64,12 +68,13 @@ impl Tally {
         *match meaning {
             Meaning::Command(_) => &mut self.commands,
             Meaning::Answer(_) => &mut self.answers,
+            Meaning::Either(..) => &mut self.either,
             Meaning::Neither(..) => &mut self.neither,
         } += 1;
     }
 
     fn telegrams(&self) -> u64 {
-        self.commands + self.answers + self.neither
+        self.commands + self.answers + self.either + self.neither
     }
 }
 
@@ -100,13 +105,12 @@ static JSON: Form = Form {
     last: json::last,
 };
 
-/// Lists a capture, telegram by telegram. Gives the number of refused ones, 0 or
-/// 1.
+/// Lists a capture, telegram by telegram; at most one is refused.
 pub fn dump(
     options: &Options,
     mut input: impl Read,
     mut output: impl Write,
-) -> Result<u64, Failure> {
+) -> Result<Ending, Failure> {
     let mut run = Vec::new();
     input.read_to_end(&mut run).map_err(Failure::Input)?;
     let form = if options.json { &JSON } else { &TEXT };
@@ -138,5 +142,8 @@ pub fn dump(
     (form.last)(&mut page, &last);
     page.write(&mut output).map_err(Failure::Output)?;
     output.flush().map_err(Failure::Output)?;
-    Ok(u64::from(refusal.is_some()))
+    Ok(Ending {
+        refused: u64::from(refusal.is_some()),
+        notes: Vec::new(),
+    })
 }

@@ -2,7 +2,8 @@
 //! docs/TOOL.md.
 //!
 //! - [`arguments`]: how the program is called.
-//! - [`program`]: what it reads from and how it ends.
+//! - [`program`]: what it reads from, and its exit.
+//! - [`ending`]: how it ends, and what it then says.
 //! - [`pieces`]: input cut into pieces of whole lines.
 //! - [`script`]: what a line says.
 //! - [`page`]: output, gathered before it is written.
@@ -10,6 +11,7 @@
 //! - [`text`] and [`json`]: the two forms of output.
 
 pub mod arguments;
+mod ending;
 pub(crate) mod json;
 pub(crate) mod page;
 mod pieces;
@@ -20,7 +22,7 @@ mod tests;
 pub(crate) mod text;
 pub(crate) mod words;
 
-use crate::answer::Reply;
+use crate::answer::{self, Reply};
 use crate::capture::{self, Stand};
 use crate::chain::lamp::READ_OUT;
 use crate::chain::{self, Chain, Defaults};
@@ -30,8 +32,9 @@ use crate::Refusal;
 use page::Page;
 use pieces::Pieces;
 use script::{Line, Report, Sent};
-use std::fmt::{self, Display, Formatter};
-use std::io::{self, Read, Write};
+use std::io::{Read, Write};
+
+pub use ending::{errors, status, Ending, Failure, Note, Stop};
 
 /// The chain to make, and what to print.
 #[derive(Clone, Copy, Debug, PartialEq, Eq)]
@@ -45,59 +48,13 @@ pub struct Options {
     pub raw: bool,
 }
 
-/// Where a capture stopped, and why.
-#[derive(Clone, Copy, Debug, PartialEq, Eq)]
-pub struct Stop {
-    pub position: u64,
-    pub refusal: Refusal,
-}
-
-/// Why a program ended early.
-#[derive(Debug)]
-pub enum Failure {
-    /// It was called wrongly.
-    Use(String),
-    /// The chain was refused.
-    Chain(Refusal),
-    /// The line with this number says nothing known, or is too long.
-    Line(u64),
-    /// A capture stopped, of which the output does not tell.
-    Capture(Stop),
-    Input(io::Error),
-    Output(io::Error),
-}
-
-impl Display for Failure {
-    fn fmt(&self, out: &mut Formatter) -> fmt::Result {
-        match self {
-            Failure::Use(message) => out.write_str(message),
-            Failure::Chain(refusal) => out.write_str(&words::refused(*refusal)),
-            Failure::Capture(Stop { position, refusal }) => {
-                let refused = words::refused(*refusal);
-                write!(out, "capture stopped at position {position}: {refused}")
-            }
-            Failure::Line(number) => write!(
-                out,
-                "line {number}: expected hex bytes, 'sensor PLACE TEMP FAULTS' or a comment"
-            ),
-            Failure::Input(error) => write!(out, "cannot read: {error}"),
-            Failure::Output(error) => write!(out, "cannot write: {error}"),
-        }
-    }
-}
-
-/// The exit status of a program that replayed so.
-pub fn status(outcome: &Result<u64, Failure>) -> u8 {
-    match outcome {
-        Ok(0) => 0,
-        Ok(_) | Err(Failure::Chain(_) | Failure::Capture(_)) => 1,
-        Err(_) => 2,
-    }
-}
-
 /// Does a script line by line, or a capture telegram by telegram, and prints it,
-/// then the lamps. Gives the number of lines or telegrams that were refused.
-pub fn replay(options: &Options, input: impl Read, mut output: impl Write) -> Result<u64, Failure> {
+/// then the lamps.
+pub fn replay(
+    options: &Options,
+    input: impl Read,
+    mut output: impl Write,
+) -> Result<Ending, Failure> {
     let lamps = options.lamps as usize;
     let mut record = vec![0; chain::length(lamps).unwrap_or(0)];
     chain::make(&mut record, lamps, options.defaults).map_err(Failure::Chain)?;
@@ -108,19 +65,20 @@ pub fn replay(options: &Options, input: impl Read, mut output: impl Write) -> Re
             (false, false) => Print::Text,
             (false, true) => Print::Json,
         },
+        raw: options.raw,
         page: Page::default(),
-        refused: 0,
+        ending: Ending::default(),
     };
     let ended = match options.raw {
         false => replay.script(input, &mut output),
         true => replay.capture(input, &mut output),
     };
-    if matches!(ended, Ok(()) | Err(Failure::Capture(_))) {
+    if ended.is_ok() {
         replay.lamps(options, &mut output)?;
     }
     replay.page.write(&mut output).map_err(Failure::Output)?;
     output.flush().map_err(Failure::Output)?;
-    ended.map(|()| replay.refused)
+    ended.map(|()| replay.ending)
 }
 
 /// What is printed of each line.
@@ -155,6 +113,8 @@ impl Mark {
 /// A telegram that was done, and the answer to it.
 struct Exchange {
     order: Order,
+    /// The answer that it may be itself, where nobody knows who sent it.
+    either: Option<Reply>,
     answer: Option<(Sent, Reply)>,
 }
 
@@ -195,8 +155,10 @@ impl Fields {
 struct Replay<'a> {
     chain: Chain<'a>,
     print: Print,
+    /// Whether lamps may have sent a telegram too.
+    raw: bool,
     page: Page,
-    refused: u64,
+    ending: Ending,
 }
 
 impl Replay<'_> {
@@ -230,21 +192,20 @@ impl Replay<'_> {
             position += telegram.len() as u64;
             self.page.spill(output).map_err(Failure::Output)?;
         }
-        match reading.stand {
-            Stand::Stopped(refusal) => self.stop(Stop { position, refusal }),
-            Stand::Open | Stand::Ended => Ok(()),
+        if let Stand::Stopped(refusal) = reading.stand {
+            self.stop(Stop { position, refusal });
         }
+        Ok(())
     }
 
-    /// Tells where the capture stopped, in the output or else as a failure.
-    fn stop(&mut self, stop: Stop) -> Result<(), Failure> {
-        self.refused += 1;
+    /// Tells where the capture stopped, in the output or else in a note.
+    fn stop(&mut self, stop: Stop) {
+        self.ending.refused += 1;
         match self.print {
-            Print::Nothing => return Err(Failure::Capture(stop)),
+            Print::Nothing => self.ending.note(Note::Stopped(stop)),
             Print::Text => text::stopped(&mut self.page, stop),
             Print::Json => json::stopped(&mut self.page, stop),
         }
-        Ok(())
     }
 
     /// Delivers a telegram and prints what came of it.
@@ -262,13 +223,17 @@ impl Replay<'_> {
                 outcome.is_err()
             }
         };
-        self.refused += u64::from(refused);
+        self.ending.refused += u64::from(refused);
     }
 
-    /// Delivers a telegram.
+    /// Delivers a telegram; notes that it may be an answer.
     fn deliver(&mut self, sent: &Sent) -> Result<(), Refusal> {
         let telegram = self.chain.hear(sent.bytes())?;
-        self.chain.take(&telegram, &mut [0; LONGEST]).map(|_| ())
+        self.chain.take(&telegram, &mut [0; LONGEST])?;
+        if self.raw && answer::heading(&telegram).is_ok() {
+            self.ending.note(Note::Either);
+        }
+        Ok(())
     }
 
     /// Delivers a telegram and names it and its answer.
@@ -277,23 +242,26 @@ impl Replay<'_> {
         let order = Order::of_telegram(&telegram)?;
         let mut room = [0; LONGEST];
         let count = self.chain.take(&telegram, &mut room)?;
-        if count == 0 {
-            return Ok(Exchange {
-                order,
-                answer: None,
-            });
+        let either = self.raw.then(|| Reply::of_telegram(&telegram));
+        let either = either.and_then(Result::ok);
+        let mut answer = None;
+        if count > 0 {
+            let sent = Sent::of(&room[..count]);
+            let reply = Reply::of_telegram(&Telegram::parse(sent.bytes())?)?;
+            answer = Some((sent, reply));
         }
-        let answer = Sent::of(&room[..count]);
-        let reply = Reply::of_telegram(&Telegram::parse(answer.bytes())?)?;
-        let answer = Some((answer, reply));
-        Ok(Exchange { order, answer })
+        Ok(Exchange {
+            order,
+            either,
+            answer,
+        })
     }
 
     /// Does a sensor report and prints what came of it.
     fn sensor(&mut self, mark: Mark, report: &Report) {
         let (place, faults) = (report.place, report.faults);
         let outcome = self.chain.sense(place, report.temperature, faults);
-        self.refused += u64::from(outcome.is_err());
+        self.ending.refused += u64::from(outcome.is_err());
         match self.print {
             Print::Nothing => {}
             Print::Text => text::sensor(&mut self.page, mark, report, outcome),

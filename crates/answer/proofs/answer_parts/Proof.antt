@@ -2,9 +2,15 @@
 -- Assumes nothing.
 use mathlib.Core.Path.{_∙_, ap, sym}
 use borrow.Author.Needs.{needs}
+use mathlib.Core.List.{[], _∷_}
+use Prim.Native.Nat.{ℕ}
+use Rattle.command.specs.Fields.{Layout, octets}
+use Rattle.command.specs.Commands.{numbered, partsBy}
 use Rattle.command.specs.declared.Parts.{Parts}
 use Rattle.answer.specs.Answers.{answerLayoutOf, answerMessageOf, answerLaidOut}
 use Rattle.answer.specs.declared.Answer.{Answer}
+use Rattle.answer.specs.declared.Answer.the-variants.{Acknowledgement}
+use Rattle.answer.proofs.Widths.{acknowledged-octets}
 use Rattle.answer.proofs.answer_parts.Statement.{statement}
 use Rattle.answer.proofs.answer_parts.Tie as tie
 
@@ -36,6 +42,9 @@ answer-parts-spec =
     (λ c κs. tt)
     (λ c. search needs)
     (λ c κs. tt)
+    (λ c. search needs)
+    (λ c κs. tt)
+    (λ c κs. tt)
     (λ c. c .two-bytes .ensures ∙ ap laid (sym (c .before .before .a .given .1)))
     (λ c. c .two-bytes2 .ensures ∙ ap laid (sym (c .before .before .a2 .given .1)))
     (λ c. c .long-parts .ensures ∙ ap laid (sym (c .before .before .a3 .given .1)))
@@ -45,4 +54,10 @@ answer-parts-spec =
     (λ c. c .one-byte2 .ensures ∙ ap laid (sym (c .before .before .a7 .given .1)))
     (λ c. c .three-bytes .ensures ∙ ap laid (sym (c .before .before .a8 .given .1)))
     (λ c. c .one-byte3 .ensures ∙ ap laid (sym (c .before .before .a9 .given .1)))
-    (λ c. c .pwm-parts .ensures ∙ ap laid (sym (c .before .before .a10 .given .1))))
+    (λ c. c .pwm-parts .ensures ∙ ap laid (sym (c .before .before .a10 .given .1)))
+    (λ c.
+    let g = c .before .before .before .a11 .given in
+    c .two-bytes4 .ensures
+    ∙ ap (λ (n : ℕ). partsBy octets (numbered n (g .0 .1 .0 ∷ g .0 .1 .1 .0 ∷ []))) (c .before .number-of .ensures)
+    ∙ ap (λ (l : Layout). partsBy l (answerMessageOf (Acknowledgement (g .0 .0) (g .0 .1 .0) (g .0 .1 .1 .0)))) (acknowledged-octets (g .0 .0))
+    ∙ ap laid (sym (g .1))))

@@ -10,7 +10,7 @@ use Rattle.telegram.specs.Numbers.{counted}
 use Rattle.telegram.proofs.Outcomes.{told-refused, told-same}
 use Rattle.telegram.proofs.Building.{Sendable}
 use Rattle.table.specs.Casts.{addressOf, castInRange}
-use Rattle.table.specs.Table.{rowOf}
+use Rattle.table.specs.Table.{rowOf, acknowledged, plainNumber}
 use Rattle.command.specs.Fields.{pwm, layoutOf, pwmFields}
 use Rattle.command.specs.Commands.{Message, numbered, payloadOf}
 use Rattle.command.specs.declared.Command.the-variants.{SetPwm}
@@ -35,7 +35,7 @@ range : (c : tie.Else1) → castInRange (c .before .before .before .before .args
 range c = sym (c .before .cast-in-range .ensures) ∙ not-false _ (c .if1 .left)
 
 pub build-pwm-spec : {M : Type 1} → statement M
-unfolding layoutOf rowOf
+unfolding layoutOf rowOf plainNumber acknowledged
 build-pwm-spec =
     tie.close
     (tie.spec

@@ -3,7 +3,7 @@
 use mathlib.Core.Path.{_∙_, ap, sym}
 use native.Mathlib.Omega.{arith}
 use Rattle.table.specs.Table.{rowOf, entryAs}
-use Rattle.table.proofs.Table.{row-00-01, row-02-03, row-04-06, row-unknown}
+use Rattle.table.proofs.Table.{row-00-01, row-02-03, row-04-06, row-24-26, row-between, row-behind}
 use Rattle.table.proofs.row_of.Statement.{statement}
 use Rattle.table.proofs.row_of.Tie as tie
 
@@ -12,6 +12,11 @@ unfolding rowOf
 row-of-spec =
     tie.close
     (tie.spec
+    (λ c κs. tt)
+    (λ c κs. tt)
+    (λ c κs. tt)
+    (λ c κs. tt)
+    (λ c κs. tt)
     (λ c κs. tt)
     (λ c κs. tt)
     (λ c κs. tt)
@@ -39,9 +44,15 @@ row-of-spec =
     (λ c. ap entryAs (c .known10 .ensures) ∙ ap rowOf (sym (c .before .match .keys10)))
     (λ c. ap entryAs (c .known11 .ensures) ∙ ap rowOf (sym (c .before .match .keys11)))
     (λ c. ap entryAs (c .known12 .ensures) ∙ ap rowOf (sym (c .before .match .keys12)))
-    (λ c. ap entryAs (c .known13 .ensures) ∙ row-00-01 _ (c .before .if1 .taken))
-    (λ c. ap entryAs (c .known14 .ensures) ∙ row-02-03 _ (c .before .before .if1 .left) (c .before .if2 .taken))
+    (λ c. ap entryAs (c .known13 .ensures) ∙ ap rowOf (sym (c .before .match .keys13)))
+    (λ c. ap entryAs (c .known14 .ensures) ∙ ap rowOf (sym (c .before .match .keys14)))
+    (λ c. ap entryAs (c .known15 .ensures) ∙ ap rowOf (sym (c .before .match .keys15)))
+    (λ c. ap entryAs (c .known16 .ensures) ∙ ap rowOf (sym (c .before .match .keys16)))
+    (λ c. ap entryAs (c .known17 .ensures) ∙ row-00-01 _ (c .before .if1 .taken))
+    (λ c. ap entryAs (c .known18 .ensures) ∙ row-02-03 _ (c .before .before .if1 .left) (c .before .if2 .taken))
     (λ c.
-    ap entryAs (c .known15 .ensures)
+    ap entryAs (c .known19 .ensures)
     ∙ row-04-06 _ (c .before .before .before .if1 .left) (c .before .before .if2 .left) (c .before .if3 .taken))
-    (λ c. row-unknown _ (omega arith) (c .if3 .left) (c .before .before .before .match .rest)))
+    (λ c. ap entryAs (c .known20 .ensures) ∙ row-24-26 _ (c .before .before .if4 .left) (c .before .if5 .taken))
+    (λ c. row-between _ (c .before .if3 .left) (c .if4 .taken) (c .before .before .before .before .match .rest))
+    (λ c. row-behind _ (omega arith) (c .if5 .left) (c .before .before .before .before .before .match .rest)))

@@ -5,7 +5,8 @@
 
 use reference::capture::{read, Stand};
 use reference::dump::{dump, Options};
-use reference::replay::{self, replay};
+use reference::replay::{self, replay, Ending, Note};
+use reference::wire::REFERENCE;
 use sides::arguments::{comparison, finish};
 use sides::programs::{Call, Printed, Refusals, Trial, Way};
 use sides::random::Random;
@@ -51,6 +52,10 @@ struct Tally {
     captures: u64,
     telegrams: usize,
     stopped: u64,
+    /// Telegrams that are a command and an answer, and quiet replays that told of
+    /// one.
+    either: usize,
+    noted: u64,
     bytes: usize,
     refusals: Refusals,
 }
@@ -62,7 +67,26 @@ impl Tally {
         self.captures += 1;
         self.telegrams += reading.telegrams.len();
         self.stopped += u64::from(matches!(reading.stand, Stand::Stopped(_)));
+        let telegrams = reading.telegrams.iter();
+        self.either += telegrams.filter(|telegram| is_either(telegram)).count();
     }
+
+    /// Demands that the captures tried enough.
+    fn demand(&self) -> Result<(), String> {
+        self.refusals.demand(&OF_CAPTURES)?;
+        match self.either == 0 || self.noted == 0 {
+            false => Ok(()),
+            true => Err("no telegram was either: the captures try too little".to_string()),
+        }
+    }
+}
+
+/// Whether a telegram is accepted as a command and as an answer.
+fn is_either(telegram: &[u8]) -> bool {
+    let readings = [REFERENCE.dissect, REFERENCE.dissect_answer];
+    readings
+        .iter()
+        .all(|dissect| dissect(telegram, &mut [0; 12]) % 256 == 0)
 }
 
 /// A comparison under way.
@@ -125,6 +149,8 @@ impl Comparison {
     ) -> Result<(), String> {
         let mut output = Vec::new();
         let outcome = replay(options, capture, &mut output);
+        let noted = |ending: &Ending| ending.notes.contains(&Note::Either);
+        self.tally.noted += u64::from(outcome.as_ref().is_ok_and(noted));
         let wanted = Printed::of("replay", output, &outcome);
         self.tally.refusals.count(&wanted.output);
         self.call("replay", arguments, capture, &wanted)
@@ -170,16 +196,18 @@ fn run() -> Result<(), String> {
         + trial.misuse("replay", &WRONG_REPLAYS, &["--raw", "--lamps", "9", "-"])?;
     let calls = trial.close()?;
     if count >= COUNT {
-        tally.refusals.demand(&OF_CAPTURES)?;
+        tally.demand()?;
     }
     println!("{}", tally.refusals.line());
     println!(
-        "compared {calls} calls on {} captures, {} of them stopped, {} telegrams, {} bytes of output in {:.1} s; {misused} calls of wrong use; seed {seed}: no difference",
+        "compared {calls} calls on {} captures, {} of them stopped, {} telegrams, {} bytes of output in {:.1} s; {misused} calls of wrong use; {} telegrams were either, {} quiet replays told of one; seed {seed}: no difference",
         tally.captures,
         tally.stopped,
         tally.telegrams,
         tally.bytes,
-        start.elapsed().as_secs_f64()
+        start.elapsed().as_secs_f64(),
+        tally.either,
+        tally.noted
     );
     Ok(())
 }

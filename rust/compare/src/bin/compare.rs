@@ -3,6 +3,7 @@
 //! the least number of calls to compare.
 
 use reference::line::{Line, Memory};
+use sides::acknowledged::ACKNOWLEDGED_SUITES;
 use sides::arguments::{comparison, finish};
 use sides::capture_suites::CAPTURE_SUITES;
 use sides::chain_suites::CHAIN_SUITES;
@@ -41,7 +42,8 @@ fn compare_all(path: &str, seed: u64, count: u64) -> Result<(), String> {
     while check.total() < count {
         anything(&mut check, &mut random)?;
     }
-    for suite in CHAIN_SUITES.into_iter().chain(CAPTURE_SUITES) {
+    let chains = CHAIN_SUITES.into_iter().chain(ACKNOWLEDGED_SUITES);
+    for suite in chains.chain(CAPTURE_SUITES) {
         suite(&mut check, &mut random)?;
     }
     for (name, calls) in check.counts() {
@@ -51,6 +53,10 @@ fn compare_all(path: &str, seed: u64, count: u64) -> Result<(), String> {
     println!(
         "{} captures cut in chunks were read as uncut",
         check.captures()
+    );
+    println!(
+        "{} acknowledged commands did what their plain forms do, and told what they left",
+        check.acknowledged()
     );
     println!(
         "compared {} calls, {} of them deliveries, seed {seed}: no difference",
@@ -64,8 +70,13 @@ fn compare_all(path: &str, seed: u64, count: u64) -> Result<(), String> {
 fn demand_3(seed: u64) -> Result<(), String> {
     let tally = try_lists(&mut Random::new(seed.rotate_left(32)))?;
     println!(
-        "demand 3: {} lists, {} lone-lamp lists, {} trades, {} telegrams of nobody in {} deliveries, seed {seed}: holds",
-        tally.lists, tally.lone, tally.trades, tally.nobodys, tally.deliveries
+        "demand 3: {} lists, {} lone-lamp lists, {} trades, {} telegrams of nobody, {} acknowledged commands with their answers in {} deliveries, seed {seed}: holds",
+        tally.lists,
+        tally.lone,
+        tally.trades,
+        tally.nobodys,
+        tally.acknowledged,
+        tally.deliveries
     );
     Ok(())
 }

@@ -16,6 +16,14 @@ pub(super) struct Delivery {
     pub(super) address: Result<u32, u32>,
 }
 
+impl Delivery {
+    /// Whether the dissector accepts it as an acknowledged command.
+    pub(super) fn is_acknowledged(&self) -> bool {
+        let number = self.bytes.get(2).map_or(0, |byte| u32::from(byte & 0x7F));
+        self.address.is_ok() && acknowledged().any(|known| known.number == number)
+    }
+}
+
 /// What a delivery gave back, and the room behind it.
 #[derive(Clone, PartialEq, Eq)]
 pub(super) struct Given {

@@ -75,13 +75,19 @@ fn unknown_command(random: &mut Random) -> Vec<u8> {
     fitting(address(random), unknown, &random.bytes(size))
 }
 
-/// A command to an address that it does not go to.
+/// A command to an address that it does not go to: 3FF, and where it is answered
+/// groups, and everyone unless it is an init.
 fn wrong_cast(random: &mut Random) -> Vec<u8> {
-    let command = random.pick(&[0x07, 0x0C, 0x40, 0x42, 0x48, 0x4A, 0x4C, 0x4E]);
-    let group = random.between(0x3F0, 0x3FE);
-    let casts = [(0, command), (group, command), (group, 2), (0x3FF, 0)];
-    let (address, command) = random.pick(&casts);
-    fitting(address, command, &[])
+    let known = random.pick(&KNOWN);
+    let mut addresses = vec![0x3FF];
+    if known.answer.is_some() {
+        addresses.push(random.between(0x3F0, 0x3FE));
+    }
+    if known.answer.is_some() && !known.is_init() {
+        addresses.push(0);
+    }
+    let address = random.pick(&addresses);
+    fitting(address, known.number, &random.bytes(known.payload))
 }
 
 /// A command with a payload of another size than its own.

@@ -4,12 +4,12 @@
 use reference::dump::arguments::Call;
 use reference::dump::dump;
 use reference::replay::program::{finish, open};
-use reference::replay::Failure;
+use reference::replay::{Ending, Failure};
 use std::process::ExitCode;
 use std::{env, io};
 
 /// Lists the capture that is named.
-fn run() -> Result<u64, Failure> {
+fn run() -> Result<Ending, Failure> {
     let call = Call::of(env::args_os().skip(1)).map_err(Failure::Use)?;
     dump(&call.options, open(&call.capture)?, io::stdout().lock())
 }

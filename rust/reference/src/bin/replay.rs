@@ -3,12 +3,12 @@
 
 use reference::replay::arguments::Call;
 use reference::replay::program::{finish, open};
-use reference::replay::{replay, Failure};
+use reference::replay::{replay, Ending, Failure};
 use std::process::ExitCode;
 use std::{env, io};
 
 /// Replays the script or the capture that is named.
-fn run() -> Result<u64, Failure> {
+fn run() -> Result<Ending, Failure> {
     let call = Call::of(env::args_os().skip(1)).map_err(Failure::Use)?;
     replay(&call.options, open(&call.script)?, io::stdout().lock())
 }

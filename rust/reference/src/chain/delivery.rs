@@ -5,6 +5,7 @@ use crate::chain::Chain;
 use crate::command::{heading, Cast, Lamp, Name};
 use crate::telegram::{exact, Telegram, LONGEST};
 use crate::Refusal;
+use std::slice;
 
 /// Delivers a telegram and gives the count of answer bytes written: 9, 11, 1
 /// to 8, then 7 for an init at 000, or 12. A refusal changes nothing, but 5
@@ -45,12 +46,15 @@ impl Chain<'_> {
         match name {
             Name::InitBidir => self.init(name, cast, Direction::Bidirectional, room),
             Name::InitLoop => self.init(name, cast, Direction::Loop, room),
+            _ if name.is_acknowledged() => self.acknowledge(name, cast, telegram.payload(), room),
             _ if name.is_answered() => self.read(name, cast, room),
             _ => self.obey(name, cast, telegram.payload()).map(|()| 0),
         }
     }
 
-    /// Does what a command says that nobody answers.
+    /// Does what a command says that nobody answers. Always inlined, so that a lamp
+    /// alone does not pay for the loops over many.
+    #[inline(always)]
     fn obey(&mut self, name: Name, cast: Cast, payload: &[u8]) -> Result<(), Refusal> {
         match name {
             Name::Reset => {
@@ -79,7 +83,7 @@ impl Chain<'_> {
                 let pwm = exact(payload)?;
                 self.each_initialized(cast, |slot| lamp::set_pwm(slot, pwm));
             }
-            // The others are answered: `read` and `init` do them.
+            // The others are answered: `acknowledge`, `read` and `init` do them.
             _ => {}
         }
         Ok(())
@@ -122,13 +126,43 @@ impl Chain<'_> {
         });
     }
 
+    /// The lamp that answers a command for one; none if nobody has the address, or
+    /// if the command passes that lamp by.
+    fn answering(&mut self, lamp: Lamp) -> Option<&mut Slot> {
+        self.first(lamp).filter(|slot| lamp::is_initialized(slot))
+    }
+
+    /// An acknowledged command, which goes to one lamp: the lamp does, as a chain of
+    /// its own, what the plain form says, then answers temperature and status as they
+    /// now are. No flag is cleared.
+    fn acknowledge(
+        &mut self,
+        name: Name,
+        cast: Cast,
+        payload: &[u8],
+        room: &mut [u8],
+    ) -> Result<usize, Refusal> {
+        let Cast::One(lamp) = cast else {
+            return Err(Refusal::Cast);
+        };
+        let defaults = self.defaults;
+        let Some(slot) = self.answering(lamp) else {
+            return Ok(0);
+        };
+        let mut alone = *slot;
+        let slots = slice::from_mut(&mut alone);
+        Chain { defaults, slots }.obey(name.plain(), cast, payload)?;
+        *slot = alone;
+        answer(lamp.address(), name, &lamp::health(slot), room)
+    }
+
     /// A read command, which goes to one lamp. The two that show the flags
     /// clear them when the answer is made.
     fn read(&mut self, name: Name, cast: Cast, room: &mut [u8]) -> Result<usize, Refusal> {
         let Cast::One(lamp) = cast else {
             return Err(Refusal::Cast);
         };
-        let Some(slot) = self.first(lamp).filter(|slot| lamp::is_initialized(slot)) else {
+        let Some(slot) = self.answering(lamp) else {
             return Ok(0);
         };
         let health = lamp::health(slot);

@@ -2,8 +2,10 @@
 //!
 //! - [`record`]: the record as a whole.
 //! - [`init`]: the two inits.
+//! - [`acknowledged`]: the acknowledged commands.
 //! - [`delivery`]: the other deliveries.
 
+mod acknowledged;
 mod delivery;
 mod init;
 mod record;

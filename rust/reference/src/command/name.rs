@@ -2,7 +2,11 @@
 
 use crate::command::Cast;
 
-/// The commands by name; each value is the command's number.
+/// The bit of a command's number with which the host asks to be answered.
+const STATUS_REQUEST: u8 = 1 << 5;
+
+/// The commands by name; each value is the command's number. `Sr`, for status
+/// request, marks the acknowledged form of a command.
 #[derive(Clone, Copy, Debug, PartialEq, Eq)]
 #[repr(u8)]
 pub enum Name {
@@ -16,6 +20,10 @@ pub enum Name {
     Identify = 0x07,
     ReadMult = 0x0C,
     SetMult = 0x0D,
+    GoSleepSr = 0x24,
+    GoActiveSr = 0x25,
+    GoDeepSleepSr = 0x26,
+    SetMultSr = 0x2D,
     ReadStatus = 0x40,
     ReadTempSt = 0x42,
     ReadTemp = 0x48,
@@ -25,11 +33,14 @@ pub enum Name {
     SetSetup = 0x4D,
     ReadPwm = 0x4E,
     SetPwm = 0x4F,
+    SetOtThSr = 0x6B,
+    SetSetupSr = 0x6D,
+    SetPwmSr = 0x6F,
 }
 
 impl Name {
     /// Every known command, by rising number.
-    pub const ALL: [Name; 19] = [
+    pub const ALL: [Name; 26] = [
         Name::Reset,
         Name::ClrError,
         Name::InitBidir,
@@ -40,6 +51,10 @@ impl Name {
         Name::Identify,
         Name::ReadMult,
         Name::SetMult,
+        Name::GoSleepSr,
+        Name::GoActiveSr,
+        Name::GoDeepSleepSr,
+        Name::SetMultSr,
         Name::ReadStatus,
         Name::ReadTempSt,
         Name::ReadTemp,
@@ -49,6 +64,9 @@ impl Name {
         Name::SetSetup,
         Name::ReadPwm,
         Name::SetPwm,
+        Name::SetOtThSr,
+        Name::SetSetupSr,
+        Name::SetPwmSr,
     ];
 
     /// The command with this number, if there is one. Always inlined: the
@@ -66,6 +84,10 @@ impl Name {
             0x07 => Name::Identify,
             0x0C => Name::ReadMult,
             0x0D => Name::SetMult,
+            0x24 => Name::GoSleepSr,
+            0x25 => Name::GoActiveSr,
+            0x26 => Name::GoDeepSleepSr,
+            0x2D => Name::SetMultSr,
             0x40 => Name::ReadStatus,
             0x42 => Name::ReadTempSt,
             0x48 => Name::ReadTemp,
@@ -75,6 +97,9 @@ impl Name {
             0x4D => Name::SetSetup,
             0x4E => Name::ReadPwm,
             0x4F => Name::SetPwm,
+            0x6B => Name::SetOtThSr,
+            0x6D => Name::SetSetupSr,
+            0x6F => Name::SetPwmSr,
             _ => return None,
         })
     }
@@ -84,13 +109,32 @@ impl Name {
         self as u8
     }
 
+    /// Whether this is the acknowledged form of a command.
+    pub fn is_acknowledged(self) -> bool {
+        self.number() & STATUS_REQUEST != 0
+    }
+
+    /// The form of the command that nobody acknowledges; itself for all others.
+    pub fn plain(self) -> Name {
+        match self {
+            Name::GoSleepSr => Name::GoSleep,
+            Name::GoActiveSr => Name::GoActive,
+            Name::GoDeepSleepSr => Name::GoDeepSleep,
+            Name::SetMultSr => Name::SetMult,
+            Name::SetOtThSr => Name::SetOtTh,
+            Name::SetSetupSr => Name::SetSetup,
+            Name::SetPwmSr => Name::SetPwm,
+            other => other,
+        }
+    }
+
     /// How many bytes the command carries.
     pub fn payload_size(self) -> usize {
         match self {
-            Name::SetSetup => 1,
-            Name::SetMult => 2,
-            Name::SetOtTh => 3,
-            Name::SetPwm => 6,
+            Name::SetSetup | Name::SetSetupSr => 1,
+            Name::SetMult | Name::SetMultSr => 2,
+            Name::SetOtTh | Name::SetOtThSr => 3,
+            Name::SetPwm | Name::SetPwmSr => 6,
             _ => 0,
         }
     }
@@ -106,6 +150,8 @@ impl Name {
             Name::Reset | Name::ClrError | Name::SetMult => None,
             Name::GoSleep | Name::GoActive | Name::GoDeepSleep => None,
             Name::SetOtTh | Name::SetSetup | Name::SetPwm => None,
+            Name::GoSleepSr | Name::GoActiveSr | Name::GoDeepSleepSr => Some(2),
+            Name::SetMultSr | Name::SetOtThSr | Name::SetSetupSr | Name::SetPwmSr => Some(2),
         }
     }
 
@@ -137,11 +183,35 @@ mod tests {
     use super::*;
 
     #[test]
-    fn nineteen_numbers_are_known() {
+    fn twenty_six_numbers_are_known() {
         let known: Vec<Name> = (0..=300).filter_map(Name::of_number).collect();
         assert_eq!(known, Name::ALL);
         for name in Name::ALL {
-            assert_eq!(Name::of_number(u32::from(name.number()) | 0x20), None);
+            assert_eq!(Name::of_number(u32::from(name.number())), Some(name));
+        }
+    }
+
+    #[test]
+    fn seven_commands_have_an_acknowledged_form() {
+        let acknowledged = Name::ALL.into_iter().filter(|name| name.is_acknowledged());
+        let numbers: Vec<u8> = acknowledged.map(Name::number).collect();
+        assert_eq!(numbers, [0x24, 0x25, 0x26, 0x2D, 0x6B, 0x6D, 0x6F]);
+        for number in (0..128).filter(|number| number & 0x20 != 0) {
+            let known = Name::of_number(number);
+            assert_eq!(known.is_some(), numbers.contains(&(number as u8)));
+        }
+    }
+
+    #[test]
+    fn plain_forms_are_those_without_bit_5() {
+        for name in Name::ALL {
+            let plain = name.plain();
+            assert_eq!(plain.number(), name.number() & !0x20);
+            assert_eq!(plain == name, !name.is_acknowledged());
+            assert_eq!(plain.payload_size(), name.payload_size());
+            if name.is_acknowledged() {
+                assert_eq!((plain.answer_size(), name.answer_size()), (None, Some(2)));
+            }
         }
     }
 }

@@ -84,13 +84,47 @@ fn reads_and_inits_have_fewer_casts() {
 }
 
 #[test]
+fn acknowledged_commands_go_to_one_lamp() {
+    let group = Cast::Members(Group::new(3).unwrap());
+    let one = Cast::One(Lamp::new(1).unwrap());
+    for name in Name::ALL.into_iter().filter(|name| name.is_acknowledged()) {
+        let command = Command::of_payload(name, &[0; 8][..name.payload_size()]).unwrap();
+        assert_eq!(Order::new(command, Cast::Everyone), Err(Refusal::Cast));
+        assert_eq!(Order::new(command, group), Err(Refusal::Cast));
+        assert!(Order::new(command, one).is_ok());
+    }
+    let order = dissect(&[0xA0, 0x04, 0x25, 0x17]).unwrap();
+    assert_eq!((order.command(), order.cast()), (Command::GoActiveSr, one));
+}
+
+#[test]
+fn acknowledged_commands_carry_what_their_plain_forms_do() {
+    for name in Name::ALL {
+        let bytes = &[0x81, 0x02, 0x7F, 0xFF, 0x80, 0x00][..name.payload_size()];
+        let plain = Command::of_payload(name.plain(), bytes).unwrap();
+        let command = Command::of_payload(name, bytes).unwrap();
+        assert_eq!(command.payload(), plain.payload());
+        assert_eq!(command.name(), name);
+    }
+    let pwm = Pwm::new(4, [1, 2, 3]).unwrap();
+    let bytes = [0x80, 0x01, 0x00, 0x02, 0x00, 0x03];
+    assert_eq!(Command::SetPwmSr(pwm).payload(), Payload::of(&bytes));
+    assert_eq!(Pwm::new(4, [1, 32_768, 3]), Err(Refusal::Range));
+}
+
+#[test]
 fn payloads_come_back() {
-    let payloads: [(Name, &[u8]); 5] = [
+    let payloads: [(Name, &[u8]); 10] = [
         (Name::Identify, &[]),
         (Name::SetSetup, &[0x33]),
         (Name::SetMult, &[0x80, 0x01]),
         (Name::SetOtTh, &[1, 2, 3]),
         (Name::SetPwm, &[0x81, 0x02, 0x03, 0x04, 0xFF, 0xFF]),
+        (Name::GoDeepSleepSr, &[]),
+        (Name::SetSetupSr, &[0x33]),
+        (Name::SetMultSr, &[0x80, 0x01]),
+        (Name::SetOtThSr, &[1, 2, 3]),
+        (Name::SetPwmSr, &[0x81, 0x02, 0x03, 0x04, 0xFF, 0xFF]),
     ];
     for (name, bytes) in payloads {
         let command = Command::of_payload(name, bytes).unwrap();

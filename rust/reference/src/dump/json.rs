@@ -1,5 +1,6 @@
 //! A listing as JSON.
 
+use crate::answer::Reply;
 use crate::dump::fault::Fault;
 use crate::dump::{Last, Meaning};
 use crate::replay::json::{answered, bytes, command, name, number, refusal};
@@ -10,18 +11,31 @@ use crate::replay::words;
 pub fn telegram(page: &mut Page, position: u64, telegram: &[u8], meaning: &Meaning) {
     heading(page, position, telegram);
     match meaning {
-        Meaning::Command(order) => command(page, order),
+        Meaning::Command(order) => {
+            command(page, order);
+            page.text("}\n");
+        }
         Meaning::Answer(reply) => {
-            let answers = words::command(reply.answer().name());
-            name(page, ",\"number\":0,\"answers\":\"", answers);
-            return answered(page, reply);
+            page.text(",\"number\":0");
+            answer(page, reply);
+        }
+        Meaning::Either(order, reply) => {
+            command(page, order);
+            answer(page, reply);
         }
         Meaning::Neither(as_command, as_answer) => {
             number(page, ",\"number\":0,\"as_command\":", as_command.number());
             number(page, ",\"as_answer\":", as_answer.number());
+            page.text("}\n");
         }
     }
-    page.text("}\n");
+}
+
+/// What an answer says, which ends the line.
+fn answer(page: &mut Page, reply: &Reply) {
+    let answers = words::command(reply.answer().name());
+    name(page, ",\"answers\":\"", answers);
+    answered(page, reply);
 }
 
 /// A refused telegram.
@@ -43,6 +57,7 @@ pub fn last(page: &mut Page, last: &Last) {
     if !last.quiet {
         number(page, ",\"commands\":", last.tally.commands);
         number(page, ",\"answers\":", last.tally.answers);
+        number(page, ",\"either\":", last.tally.either);
         number(page, ",\"neither\":", last.tally.neither);
     }
     let refused = last.refusal.map_or(0, |refusal| refusal.number());

@@ -68,10 +68,10 @@ fn json_is_that_of_the_page() {
 {"position":14,"bytes":"A007CF00FF00001111000049","number":0,"as_command":8,"as_answer":6}
 "#;
     let refused = r#"{"position":26,"bytes":"A0174F75B02EE00000B5","number":5,"refusal":"checksum differs","expected":"checksum 9F, got B5"}
-{"stopped":26,"telegrams":4,"commands":2,"answers":1,"neither":1,"number":5}
+{"stopped":26,"telegrams":4,"commands":2,"answers":1,"either":0,"neither":1,"number":5}
 "#;
-    let ended =
-        "{\"ended\":26,\"telegrams\":4,\"commands\":2,\"answers\":1,\"neither\":1,\"number\":0}\n";
+    let ended = r#"{"ended":26,"telegrams":4,"commands":2,"answers":1,"either":0,"neither":1,"number":0}
+"#;
     assert_eq!(print(true, false, GOOD), (format!("{listed}{ended}"), 0));
     let capture = format!("{GOOD}{REFUSED}");
     assert_eq!(
@@ -145,6 +145,63 @@ fn a_wrong_checksum_is_mended() {
         told("A0000000")[2],
         "claims command 00 (reset), address 000, 0 payload bytes"
     );
+}
+
+/// A telegram that is either.
+const EITHER: &str = "A00D2D0010B4";
+const SAID: &str = "setmult_sr to lamp 003: mask 0010, or 003 answers setmult_sr: temperature 00, status 10 (UNINITIALIZED, loop, no flags)";
+
+#[test]
+fn a_telegram_that_is_either_is_said_both_ways() {
+    let capture = format!("{GOOD}{EITHER}");
+    let (output, status) = print(false, false, &capture);
+    let lines: Vec<&str> = output.lines().skip(4).collect();
+    let listed = format!("        26  A0 0D 2D 00 10 B4                    {SAID}");
+    let ended =
+        "ended at position 32: 5 telegrams (2 commands, 1 answer, 1 either, 1 neither)".to_string();
+    assert_eq!((lines, status), (vec![&listed[..], &ended], 0));
+    let (output, _) = print(false, false, &format!("{EITHER}{EITHER}B0"));
+    let stopped = "stopped at position 12: 2 telegrams before it (0 commands, 0 answers, 2 either, 0 neither)";
+    assert_eq!(output.lines().last(), Some(stopped));
+    let wanted = "ended at position 32: 5 telegrams\n";
+    assert_eq!(print(false, true, &capture), (wanted.to_string(), 0));
+}
+
+#[test]
+fn json_says_either_both_ways() {
+    let (output, _) = print(true, false, &format!("{GOOD}{EITHER}"));
+    let lines: Vec<&str> = output.lines().skip(4).collect();
+    let wanted = [
+        r#"{"position":26,"bytes":"A00D2D0010B4","number":0,"command":"setmult_sr","cast":"one","value":3,"payload":"0010","answers":"setmult_sr","address":3,"answer":"0010"}"#,
+        r#"{"ended":32,"telegrams":5,"commands":2,"answers":1,"either":1,"neither":1,"number":0}"#,
+    ];
+    assert_eq!(lines, wanted);
+}
+
+#[test]
+fn a_mended_telegram_may_be_either() {
+    let wanted = [
+        "A0 0D 2D 00 10 00                    refused 5: checksum differs",
+        "expected checksum B4, got 00",
+        "claims command 2D (setmult_sr), address 003, 2 payload bytes",
+        &format!("with that checksum: {SAID}"),
+    ];
+    assert_eq!(told("A00D2D001000"), wanted);
+}
+
+#[test]
+fn only_setmult_sr_is_either() {
+    let listed = [
+        ("A0042517", "goactive_sr to lamp 001"),
+        (
+            "A0052500901C",
+            "001 answers goactive_sr: temperature 00, status 90 (ACTIVE, loop, no flags)",
+        ),
+    ];
+    for (telegram, wanted) in listed {
+        let (output, _) = print(false, false, telegram);
+        assert_eq!(&output.lines().next().unwrap()[49..], wanted);
+    }
 }
 
 #[test]

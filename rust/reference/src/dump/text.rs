@@ -47,8 +47,11 @@ pub fn last(page: &mut Page, last: &Last) {
         _ => {
             let commands = counted(tally.commands, "command");
             let answers = counted(tally.answers, "answer");
-            let neither = tally.neither;
-            page.show(format_args!(" ({commands}, {answers}, {neither} neither)"));
+            page.show(format_args!(" ({commands}, {answers}"));
+            if tally.either > 0 {
+                page.show(format_args!(", {} either", tally.either));
+            }
+            page.show(format_args!(", {} neither)", tally.neither));
         }
     }
     page.text("\n");
@@ -67,6 +70,11 @@ fn say(page: &mut Page, meaning: &Meaning) {
     match meaning {
         Meaning::Command(order) => text::command(page, order),
         Meaning::Answer(reply) => text::answered(page, reply),
+        Meaning::Either(order, reply) => {
+            text::command(page, order);
+            page.text(", or ");
+            text::answered(page, reply);
+        }
         Meaning::Neither(as_command, as_answer) => page.show(format_args!(
             "neither: as a command refused {}, as an answer refused {}",
             as_command.number(),

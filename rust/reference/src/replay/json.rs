@@ -16,12 +16,15 @@ pub(super) fn telegram(
 ) {
     stands(page, mark);
     bytes(page, ",\"tx\":\"", sent.bytes());
-    let Exchange { order, answer } = match outcome {
+    let exchange = match outcome {
         Err(refusal) => return refused(page, *refusal),
         Ok(exchange) => exchange,
     };
-    command(page, order);
-    match answer {
+    command(page, &exchange.order);
+    if exchange.either.is_some() {
+        page.text(",\"either\":true");
+    }
+    match &exchange.answer {
         None => page.text(",\"rx\":null}\n"),
         Some((answer, reply)) => {
             bytes(page, ",\"rx\":\"", answer.bytes());

@@ -1,6 +1,6 @@
-//! What a program reads from, and how it ends.
+//! What a program reads from, and its exit.
 
-use crate::replay::{status, Failure};
+use crate::replay::{errors, status, Ending, Failure};
 use std::ffi::OsStr;
 use std::fs::File;
 use std::io::{self, Read};
@@ -15,10 +15,8 @@ pub fn open(path: &OsStr) -> Result<Box<dyn Read>, Failure> {
     Ok(Box::new(file))
 }
 
-/// Says on standard error why a program ended early; gives its exit status.
-pub fn finish(name: &str, outcome: &Result<u64, Failure>) -> ExitCode {
-    if let Err(failure) = outcome {
-        eprintln!("osp: {name}: {failure}");
-    }
+/// Says on standard error what is left to be said; gives the exit status.
+pub fn finish(name: &str, outcome: &Result<Ending, Failure>) -> ExitCode {
+    eprint!("{}", errors(name, outcome));
     ExitCode::from(status(outcome))
 }

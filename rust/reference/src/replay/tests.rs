@@ -1,9 +1,11 @@
 //! The page's examples, and where its sentences end.
 
 mod raw;
+mod said;
 
 use super::*;
 use crate::command::Name;
+use std::io;
 
 const DEFAULTS: Defaults = Defaults {
     setup: 0x13,
@@ -12,7 +14,7 @@ const DEFAULTS: Defaults = Defaults {
 const TABLE: &str = "place addr state         com   temp thresholds setup red         green       blue        flags               groups\n";
 
 /// What is printed for a script, and how it ended.
-fn print(options: Options, script: &[u8]) -> (String, Result<u64, Failure>) {
+fn print(options: Options, script: &[u8]) -> (String, Result<Ending, Failure>) {
     let mut output = Vec::new();
     let outcome = replay(&options, script, &mut output);
     (String::from_utf8(output).unwrap(), outcome)
@@ -42,7 +44,7 @@ fn lines(options: Options, script: &str) -> (String, u64) {
         false => output.find("\nplace").unwrap(),
         true => output.find("{\"place\"").unwrap(),
     };
-    (output[..end].to_string(), outcome.unwrap())
+    (output[..end].to_string(), outcome.unwrap().refused)
 }
 
 /// The hex digits of a telegram.
@@ -95,95 +97,6 @@ tx A0 07 80 04 05 06 07 08 09 0A 0B ..  line 3: refused 4: byte count is not 4 +
     assert_eq!(output.lines().nth(2), Some(wanted));
 }
 
-/// The words of a telegram to nine lamps that were numbered from 1.
-fn words(telegram: &str) -> String {
-    let script = format!("A00402A9\n{telegram}\n");
-    let (output, _) = lines(text(9), &script);
-    output.lines().nth(2).unwrap()[40..].to_string()
-}
-
-#[test]
-fn commands_are_said_as_on_the_page() {
-    let pwm = [0x03, 0xE8, 0x87, 0xD0, 0x00, 0x00];
-    let said = [
-        (0, Name::Reset, &[][..], "reset to everyone"),
-        (0x3F3, Name::GoActive, &[], "goactive to group 3"),
-        (10, Name::ReadPwm, &[], "readpwm to lamp 00A"),
-        (1, Name::InitBidir, &[], "initbidir from 001"),
-        (0, Name::InitLoop, &[], "initloop at 000"),
-        (
-            3,
-            Name::SetMult,
-            &[0, 0x10],
-            "setmult to lamp 003: mask 0010",
-        ),
-        (
-            0,
-            Name::SetOtTh,
-            &[0x03, 0xE6, 0xF0],
-            "setotth to everyone: thresholds 03 E6 F0",
-        ),
-        (1, Name::SetSetup, &[0x13], "setsetup to lamp 001: setup 13"),
-        (
-            1,
-            Name::SetPwm,
-            &pwm,
-            "setpwm to lamp 001: red night 1000, green day 2000, blue night 0",
-        ),
-    ];
-    for (address, name, payload, wanted) in said {
-        assert_eq!(words(&telegram(address, name, payload)), wanted);
-    }
-}
-
-#[test]
-fn every_command_has_its_name() {
-    for name in Name::ALL {
-        let payload = vec![0; name.payload_size()];
-        let said = words(&telegram(1, name, &payload));
-        let word = format!("{name:?}").to_lowercase();
-        assert_eq!(said.split(' ').next(), Some(&word[..]));
-    }
-}
-
-#[test]
-fn answers_are_said_as_on_the_page() {
-    let pwm = [0x03, 0xE8, 0x87, 0xD0, 0x00, 0x00];
-    let script = [
-        telegram(1, Name::InitLoop, &[]),
-        telegram(0, Name::GoActive, &[]),
-        telegram(0, Name::SetMult, &[0x00, 0x10]),
-        telegram(0, Name::SetPwm, &pwm),
-        "A0000023\nsensor 0 6B 3".to_string(),
-        telegram(1, Name::Identify, &[]),
-        telegram(3, Name::ReadMult, &[]),
-        telegram(1, Name::ReadStatus, &[]),
-        telegram(1, Name::ReadTempSt, &[]),
-        telegram(1, Name::ReadTemp, &[]),
-        telegram(1, Name::ReadOtTh, &[]),
-        telegram(1, Name::ReadSetup, &[]),
-        telegram(1, Name::ReadPwm, &[]),
-        telegram(0, Name::InitBidir, &[]),
-    ];
-    let (output, refused) = lines(text(9), &script.join("\n"));
-    assert_eq!(refused, 1);
-    let said = output.lines().filter(|line| line.starts_with("rx A"));
-    let said: Vec<&str> = said.map(|line| &line[40..]).collect();
-    let wanted = [
-        "009 answers initloop: temperature 00, status 50 (SLEEP, loop, no flags)",
-        "001 answers identify: identity 00000000",
-        "003 answers readmult: mask 0010",
-        "001 answers readstatus: status 9B (ACTIVE, loop, CE OT UV)",
-        "001 answers readtempst: temperature 6B, status 90 (ACTIVE, loop, no flags)",
-        "001 answers readtemp: temperature 6B",
-        "001 answers readotth: thresholds 03 E6 F0",
-        "001 answers readsetup: setup 13",
-        "001 answers readpwm: red night 1000, green day 2000, blue night 0",
-        "000 answers initbidir: temperature 00, status 98 (ACTIVE, loop, CE)",
-    ];
-    assert_eq!(said, wanted);
-}
-
 #[test]
 fn the_table_is_that_of_the_page() {
     let script = [
@@ -203,7 +116,8 @@ fn the_table_is_that_of_the_page() {
     };
     let script = script.join("\n");
     let (output, outcome) = print(quiet, script.as_bytes());
-    assert_eq!((output, outcome.unwrap()), (format!("{TABLE}{rows}"), 0));
+    assert_eq!(outcome.unwrap(), Ending::default());
+    assert_eq!(output, format!("{TABLE}{rows}"));
     let (output, _) = print(text(2), script.as_bytes());
     assert!(output.ends_with(&format!("sets LOS OT UV\n\n{TABLE}{rows}")));
 }
@@ -237,7 +151,7 @@ fn lamps_in_json_are_those_of_the_page() {
         ..json(1)
     };
     let (output, outcome) = print(quiet, script.join("\n").as_bytes());
-    assert_eq!((output, outcome.unwrap()), (wanted.to_string(), 1));
+    assert_eq!((&output[..], outcome.unwrap().refused), (wanted, 1));
     let (output, _) = print(json(1), script.join("\n").as_bytes());
     assert!(output.ends_with(&format!("}}\n{wanted}")));
 }

@@ -4,7 +4,7 @@ use crate::answer::{Answer, Health, Reply};
 use crate::command::{Cast, Channel, Command, Order, Pwm};
 use crate::replay::page::{hex, Page};
 use crate::replay::script::{Report, Sent};
-use crate::replay::{words, Exchange, Failure, Fields, Mark, Stop};
+use crate::replay::{words, Exchange, Fields, Mark, Stop};
 use crate::telegram::LONGEST;
 use crate::Refusal;
 
@@ -26,17 +26,25 @@ pub(super) fn telegram(
     bytes(page, b"tx ", sent);
     match outcome {
         Err(refusal) => refused(page, mark, *refusal),
-        Ok(Exchange { order, answer }) => {
-            command(page, order);
-            match answer {
-                None => page.text("\nrx none\n"),
-                Some((answer, reply)) => {
-                    page.text("\n");
-                    bytes(page, b"rx ", answer);
-                    answered(page, reply);
-                    page.text("\n");
-                }
-            }
+        Ok(exchange) => done(page, exchange),
+    }
+}
+
+/// What a telegram says that was done, and its answer below it.
+fn done(page: &mut Page, exchange: &Exchange) {
+    command(page, &exchange.order);
+    if let Some(reply) = exchange.either {
+        page.text(" (or an answer of ");
+        page.address(reply.address());
+        page.text("; done as a command)");
+    }
+    match &exchange.answer {
+        None => page.text("\nrx none\n"),
+        Some((answer, reply)) => {
+            page.text("\n");
+            bytes(page, b"rx ", answer);
+            answered(page, reply);
+            page.text("\n");
         }
     }
 }
@@ -65,7 +73,7 @@ pub(super) fn sensor(page: &mut Page, mark: Mark, report: &Report, outcome: Resu
 
 /// That the capture stopped.
 pub(super) fn stopped(page: &mut Page, stop: Stop) {
-    page.show(format_args!("{}\n", Failure::Capture(stop)));
+    page.show(format_args!("{stop}\n"));
 }
 
 /// An empty line, unless the lamps stand alone, and what stands above them.
@@ -151,10 +159,12 @@ pub fn command(page: &mut Page, order: &Order) {
         }
     }
     match order.command() {
-        Command::SetMult(groups) => value(page, ": mask ", &groups.to_be_bytes()),
-        Command::SetOtTh(bytes) => thresholds(page, bytes),
-        Command::SetSetup(setup) => value(page, ": setup ", &[setup]),
-        Command::SetPwm(words) => pwm(page, words),
+        Command::SetMult(groups) | Command::SetMultSr(groups) => {
+            value(page, ": mask ", &groups.to_be_bytes());
+        }
+        Command::SetOtTh(bytes) | Command::SetOtThSr(bytes) => thresholds(page, bytes),
+        Command::SetSetup(setup) | Command::SetSetupSr(setup) => value(page, ": setup ", &[setup]),
+        Command::SetPwm(words) | Command::SetPwmSr(words) => pwm(page, words),
         _ => {}
     }
 }
@@ -166,14 +176,16 @@ pub fn answered(page: &mut Page, reply: &Reply) {
     page.text(" answers ");
     page.text(words::command(answer.name()));
     match answer {
-        Answer::InitBidir(health) | Answer::InitLoop(health) | Answer::ReadTempSt(health) => {
-            let Health {
-                temperature,
-                status: byte,
-            } = health;
-            value(page, ": temperature ", &[temperature]);
-            status(page, ", status ", byte);
-        }
+        Answer::InitBidir(both)
+        | Answer::InitLoop(both)
+        | Answer::ReadTempSt(both)
+        | Answer::GoSleepSr(both)
+        | Answer::GoActiveSr(both)
+        | Answer::GoDeepSleepSr(both)
+        | Answer::SetMultSr(both)
+        | Answer::SetOtThSr(both)
+        | Answer::SetSetupSr(both)
+        | Answer::SetPwmSr(both) => health(page, both),
         Answer::Identify(identity) => value(page, ": identity ", &identity.to_be_bytes()),
         Answer::ReadMult(groups) => value(page, ": mask ", &groups.to_be_bytes()),
         Answer::ReadStatus(byte) => status(page, ": status ", byte),
@@ -194,6 +206,12 @@ fn value(page: &mut Page, name: &str, bytes: &[u8]) {
 fn thresholds(page: &mut Page, bytes: [u8; 3]) {
     page.text(": thresholds ");
     page.spaced(&bytes);
+}
+
+/// Temperature and status behind their names.
+fn health(page: &mut Page, health: Health) {
+    value(page, ": temperature ", &[health.temperature]);
+    status(page, ", status ", health.status);
 }
 
 /// A status byte behind its name, and what it says.

@@ -50,6 +50,10 @@ pub fn command(name: Name) -> &'static str {
         Name::Identify => "identify",
         Name::ReadMult => "readmult",
         Name::SetMult => "setmult",
+        Name::GoSleepSr => "gosleep_sr",
+        Name::GoActiveSr => "goactive_sr",
+        Name::GoDeepSleepSr => "godeepsleep_sr",
+        Name::SetMultSr => "setmult_sr",
         Name::ReadStatus => "readstatus",
         Name::ReadTempSt => "readtempst",
         Name::ReadTemp => "readtemp",
@@ -59,6 +63,9 @@ pub fn command(name: Name) -> &'static str {
         Name::SetSetup => "setsetup",
         Name::ReadPwm => "readpwm",
         Name::SetPwm => "setpwm",
+        Name::SetOtThSr => "setotth_sr",
+        Name::SetSetupSr => "setsetup_sr",
+        Name::SetPwmSr => "setpwm_sr",
     }
 }
 

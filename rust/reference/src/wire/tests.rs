@@ -64,6 +64,26 @@ fn command_builder_refuses_in_order() {
     assert_eq!(refusal(0x40, 1, 9, &[]), 9);
 }
 
+#[test]
+fn acknowledged_commands_have_the_layouts() {
+    let bytes = [0xA0, 0x0D, 0x2D, 0x00, 0x10, 0xB4];
+    let built = outcome(6, |room| build_command(0x2D, 1, 3, &[0x00, 0x10], room));
+    assert_eq!(built, Ok(bytes.to_vec()));
+    let wanted = Ok(vec![0x2D, 1, 0, 3, 2, 0x00, 0x10]);
+    assert_eq!(outcome(9, |room| dissect(&bytes, room)), wanted);
+    let wanted = Ok(vec![0x2D, 0, 3, 2, 0x00, 0x10]);
+    assert_eq!(outcome(9, |room| dissect_answer(&bytes, room)), wanted);
+    let refusal = |cast, value, payload: &[u8]| {
+        outcome(0, |room| build_command(0x6F, cast, value, payload, room)).unwrap_err()
+    };
+    assert_eq!(refusal(0, 9, &[1]), 8);
+    assert_eq!(refusal(0, 9, &[0; 6]), 10);
+    assert_eq!(refusal(1, 0x3F0, &[0; 6]), 10);
+    assert_eq!(refusal(0, 0, &[0; 6]), 7);
+    assert_eq!(refusal(2, 14, &[0; 6]), 7);
+    assert_eq!(refusal(1, 9, &[0xFF; 6]), 9);
+}
+
 /// SETPWM from its fields in a room of this size.
 fn pwm(size: usize, cast: (u32, u32), modes: u32, duties: [u32; 3]) -> Result<Vec<u8>, u32> {
     let [red, green, blue] = duties;

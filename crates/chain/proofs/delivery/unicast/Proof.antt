@@ -37,8 +37,12 @@ in-chain c =
     found-in (a .mem .now) (λ i. omega (arith, c .before .before .before .before .before .before .before .before .before .slice-known .given i)) (valid (c .before .before .before .before .before .before .before .before .before .before)) (commandIn (a .n) (a .payload .now)) (a .a) _ (found-is c)
 
 -- the bytes of the answer
-bytes : (c : tie.After-answer-bytes) → let a = c .before .before .before .before .before .before .before .before .before .before .before .before .before .args in Handed (answered (a .n) (lampAt (a .mem .now) (c .before .before .before .before .found .given .0 .0 .0))) (c .answer-bytes .result)
-bytes c = handed _ _ (c .answer-bytes .ensures ∙ ap (λ (l : Lamp). padded (answered (c .before .before .before .before .before .before .before .before .before .before .before .before .before .args .n) l)) (c .before .load-lamp .ensures))
+bytes : (c : tie.After-answer-bytes) → let a = c .before .before .before .before .before .before .before .before .before .before .before .before .before .args in Handed (answered (decode (a .mem .now) .defaults) (commandIn (a .n) (a .payload .now)) (lampAt (a .mem .now) (c .before .before .before .before .found .given .0 .0 .0))) (c .answer-bytes .result)
+bytes c =
+    let a = c .before .before .before .before .before .before .before .before .before .before .before .before .before .args in
+    let d = decode (a .mem .now) .defaults in
+    let x = commandIn (a .n) (a .payload .now) in
+    handed _ _ (c .answer-bytes .ensures d (x .fields) ∙ ap (λ (l : Lamp). padded (answered d x l)) (c .before .load-lamp .ensures))
 
 pub unicast-spec : {M : Type 1} → statement M
 unfolding decode
@@ -58,7 +62,7 @@ unicast-spec =
     (λ c κs. search needs)
     (λ c κs.
     let p = c .before .before .before .before .before .before .before .before .before .before .before .before .before .before .pre in
-    (p .3, p .2, p .4, bytes (c .before) .within, ap listed (bytes (c .before) .size) ∙ answered-listed _ _))
+    (p .3, p .2, p .4, bytes (c .before) .within, ap listed (bytes (c .before) .size) ∙ answered-listed _ _ _))
     (λ c κs. omega (arith, valid (c .before .before .before .before .before .before .before .before .before .before .before .before .before .before .before .before .before .before .before) .room))
     (λ c κs. (omega (arith, valid (c .before .before .before .before .before .before .before .before .before .before .before .before .before .before .before .before .before .before .before .before) .room, in-chain (c .before .before .before .before .before .before .before .before .before .before)), c .before .before .before .before .before .before .before .before .before .before .before .before .before .before .before .before .before .before .before .before .pre .1))
     (λ c. search needs)

@@ -10,7 +10,7 @@ abbrev Inv-loop : tie.InvT-loop
 Inv-loop book word number₀ number = Unit {0}
 
 abbrev μ-loop : tie.MeasureT-loop
-μ-loop book word number₀ number = 0x50 - number
+μ-loop book word number₀ number = 0x80 - number
 
 pub command-named-spec : {M : Type 1} → statement M
 command-named-spec =

@@ -45,10 +45,11 @@ rx none
 ";
     let table = lamps(text(9));
     let (output, outcome) = print(raw(text(9)), &capture(false));
-    assert_eq!((status(&outcome), outcome.unwrap()), (1, 1));
+    assert_eq!((status(&outcome), outcome.unwrap().refused), (1, 1));
     assert_eq!(output, format!("{wanted}\n{table}"));
     let (output, outcome) = print(raw(text(9)), &capture(true));
-    assert_eq!((status(&outcome), outcome.unwrap()), (1, 2));
+    assert_eq!((status(&outcome), &errors("replay", &outcome)[..]), (1, ""));
+    assert_eq!(outcome.unwrap().refused, 2);
     assert_eq!(output, format!("{wanted}{STOPPED}\n\n{table}"));
 }
 
@@ -61,23 +62,97 @@ fn json_has_positions() {
     let stopped = "{\"stopped\":20,\"number\":5,\"refusal\":\"checksum differs\"}\n";
     let lamps = lamps(json(9));
     let (output, outcome) = print(raw(json(9)), &capture(true));
-    assert_eq!((status(&outcome), outcome.unwrap()), (1, 2));
+    assert_eq!((status(&outcome), outcome.unwrap().refused), (1, 2));
     assert_eq!(output, format!("{wanted}{stopped}{lamps}"));
 }
 
+/// The same without a line of its telegrams.
+fn quiet(options: Options) -> Options {
+    let quiet = true;
+    Options { quiet, ..options }
+}
+
 #[test]
-fn a_quiet_replay_tells_the_stop_as_a_failure() {
+fn a_quiet_replay_tells_the_stop_on_standard_error() {
     for options in [text(9), json(9)] {
-        let quiet = Options {
-            quiet: true,
-            ..raw(options)
-        };
-        let (output, outcome) = print(quiet, &capture(true));
-        let failure = outcome.as_ref().unwrap_err().to_string();
-        assert_eq!((status(&outcome), &failure[..]), (1, STOPPED));
+        let (output, outcome) = print(quiet(raw(options)), &capture(true));
+        let told = format!("osp: replay: {STOPPED}\n");
+        assert_eq!((status(&outcome), errors("replay", &outcome)), (1, told));
         assert_eq!(output, lamps(options));
-        let (output, outcome) = print(quiet, &capture(false));
-        assert_eq!((output, outcome.unwrap()), (lamps(options), 1));
+        let (output, outcome) = print(quiet(raw(options)), &capture(false));
+        assert_eq!(errors("replay", &outcome), "");
+        assert_eq!((output, outcome.unwrap().refused), (lamps(options), 1));
+    }
+}
+
+/// A telegram of lamp 3 that is either, behind an init.
+const EITHER: [&[u8]; 2] = [
+    &[0xA0, 0x04, 0x03, 0x86],
+    &[0xA0, 0x0D, 0x2D, 0x00, 0x10, 0xB4],
+];
+/// What is told of it where the output does not tell it.
+const MAY_BE: &str = "osp: replay: a setmult_sr of the capture may be an answer of its lamp; it was done as a command\n";
+
+#[test]
+fn a_telegram_that_is_either_is_done_as_a_command() {
+    let wanted = "\
+tx A0 0D 2D 00 10 B4                    setmult_sr to lamp 003: mask 0010 (or an answer of 003; done as a command)
+rx A0 0D 2D 00 50 52                    003 answers setmult_sr: temperature 00, status 50 (SLEEP, loop, no flags)
+";
+    let (output, outcome) = print(raw(text(9)), &EITHER.concat());
+    let (behind, lamps) = output.split_once("\n\n").unwrap();
+    assert!(format!("{behind}\n").ends_with(wanted));
+    assert!(lamps
+        .lines()
+        .nth(3)
+        .unwrap()
+        .ends_with(" none                4"));
+    assert_eq!((status(&outcome), &errors("replay", &outcome)[..]), (0, ""));
+    let (output, _) = print(raw(json(9)), &EITHER.concat());
+    let wanted = r#"{"position":4,"tx":"A00D2D0010B4","number":0,"command":"setmult_sr","cast":"one","value":3,"payload":"0010","either":true,"rx":"A00D2D005052","address":3,"answer":"0050"}"#;
+    assert_eq!(output.lines().nth(1), Some(wanted));
+}
+
+#[test]
+fn nobodys_telegram_may_be_either_too() {
+    let (output, _) = print(raw(text(2)), &EITHER.concat());
+    let wanted = "\
+tx A0 0D 2D 00 10 B4                    setmult_sr to lamp 003: mask 0010 (or an answer of 003; done as a command)
+rx none
+";
+    assert!(output
+        .split_once("\n\n")
+        .unwrap()
+        .0
+        .contains(wanted.trim_end()));
+    let (output, _) = print(raw(json(2)), &EITHER.concat());
+    let line = output.lines().nth(1).unwrap();
+    assert!(line.ends_with(r#","payload":"0010","either":true,"rx":null}"#));
+}
+
+#[test]
+fn a_quiet_replay_tells_once_that_a_telegram_may_be_an_answer() {
+    let twice = [EITHER[0], EITHER[1], EITHER[1]].concat();
+    for options in [text(9), json(9)] {
+        let (_, outcome) = print(quiet(raw(options)), &twice);
+        assert_eq!(status(&outcome), 0);
+        assert_eq!(errors("replay", &outcome), MAY_BE);
+        let (_, outcome) = print(quiet(raw(options)), &[&twice, DAMAGED].concat());
+        let stopped = "osp: replay: capture stopped at position 16: refused 5: checksum differs\n";
+        assert_eq!(status(&outcome), 1);
+        assert_eq!(errors("replay", &outcome), format!("{MAY_BE}{stopped}"));
+        let (_, outcome) = print(quiet(raw(options)), EITHER[0]);
+        assert_eq!(errors("replay", &outcome), "");
+    }
+}
+
+#[test]
+fn a_script_is_the_hosts_alone() {
+    let script = "A0040386\nA00D2D0010B4";
+    for options in [text(9), json(9), quiet(text(9))] {
+        let (output, outcome) = print(options, script.as_bytes());
+        assert!(!output.contains("or an answer of") && !output.contains("either"));
+        assert_eq!(errors("replay", &outcome), "");
     }
 }
 
@@ -94,7 +169,7 @@ fn every_refusal_stops_a_capture() {
         let (output, outcome) = print(raw(text(1)), &[CAPTURE[2], bytes].concat());
         let line = format!("capture stopped at position 4: refused {number}: ");
         assert!(output.lines().nth(2).unwrap().starts_with(&line));
-        assert_eq!(outcome.unwrap(), 1);
+        assert_eq!(outcome.unwrap().refused, 1);
     }
 }
 

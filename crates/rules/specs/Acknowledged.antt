@@ -1,0 +1,38 @@
+-- Document 02, request 02: what is said of acknowledged commands, over the rules of one lamp.
+-- Assumes nothing.
+use mathlib.Core.Path.{_≡_}
+use mathlib.Core.Bool.{true}
+use mathlib.Core.List.{[]}
+use Rattle.table.specs.Table.{acknowledged, plainNumber}
+use Rattle.command.specs.Commands.{Message, numbered}
+use Rattle.rules.specs.declared.Defaults.{Defaults}
+use Rattle.rules.specs.declared.Lamp.{Lamp}
+use Rattle.rules.specs.declared.State.the-variants.{Uninitialized}
+use Rattle.rules.specs.Lamp.{acted, answered}
+
+-- The plain form of a command: the same fields under its number.
+abbrev pub plainForm : Message → Message
+plainForm m = numbered (plainNumber (m .number)) (m .fields)
+
+-- READTEMPST.
+abbrev pub readTempStatus : Message
+readTempStatus = numbered 0x42 []
+
+-- "Each does what its plain form does": so every lamp becomes.
+unfoldable pub ChangesAsPlain : Type 0
+ChangesAsPlain = (d : Defaults) (m : Message) (l : Lamp) → acted d m l ≡ acted d (plainForm m) l
+
+-- "Clearing no flag": the lamp keeps every flag.
+unfoldable pub KeepsFlags : Type 0
+KeepsFlags = (d : Defaults) (m : Message) (l : Lamp) → acknowledged (m .number) ≡ true → acted d m l .flags ≡ l .flags
+
+-- "Then answers with the two bytes of READTEMPST as they stand after the effect": the bytes that READTEMPST would be answered with next.
+unfoldable pub AnswersAfterwards : Type 0
+AnswersAfterwards =
+    (d : Defaults) (m : Message) (l : Lamp) → acknowledged (m .number) ≡ true → answered d m l ≡ answered d readTempStatus (acted d m l)
+
+-- "A lamp that passes the command by gives no answer": it is in UNINITIALIZED, and stays as it was.
+unfoldable pub PassedBy : Type 0
+PassedBy =
+    (d : Defaults) (m : Message) (l : Lamp) → acknowledged (m .number) ≡ true → l .state ≡ Uninitialized
+    → (acted d m l ≡ l) × (answered d m l ≡ [])
