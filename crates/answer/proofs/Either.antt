@@ -1,7 +1,7 @@
 -- Which telegrams are both a command and an answer: those of SETMULT acknowledged alone.
 -- Assumes nothing.
 use mathlib.Core.Path.{_≡_, refl, sym, ap, _∙_}
-use mathlib.Core.Bool.{Bool, true, false, not, _&&_, _||_}
+use mathlib.Core.Bool.{Bool, true, false, false≢true, not, _&&_, _||_}
 use mathlib.Core.List.{List}
 use Prim.Native.Nat.{ℕ, _≤_}
 use native.Mathlib.Omega.{arith}
@@ -9,15 +9,23 @@ use lib.Dec.{eqb, ltb, eqb→eq}
 use borrow.Author.Tests.{eqb-true, eq-eqb, ltb-true, ltb-false}
 use Rattle.checksum.proofs.Below.{at}
 use Rattle.telegram.specs.Numbers.{Outcome, refused, done}
+use Rattle.telegram.specs.declared.Address.{Address}
 use Rattle.telegram.specs.declared.Telegram.{Telegram}
 use Rattle.telegram.proofs.Outcomes.{never, done-one}
-use Rattle.table.specs.Table.{rowOf}
+use Rattle.table.specs.Casts.{addressOf}
+use Rattle.table.specs.Table.{rowOf, castListed}
+use Rattle.table.specs.declared.Cast.{Cast}
+use Rattle.table.specs.declared.Cast.the-variants.{Everyone, One, Group}
+use Rattle.table.specs.declared.Casts.the-variants.{Single}
 use Rattle.table.specs.declared.Row.{Row}
 use Rattle.table.proofs.Table.{T-or, row-high}
+use Rattle.table.proofs.Destinations.{reached}
 use Rattle.command.specs.Commands.{Message, Sent, dissecting}
 use Rattle.command.proofs.Naming.{named, dissected}
-use Rattle.answer.specs.Answers.{Reply, dissectingAnswer}
-use Rattle.answer.proofs.Answering.{replied, dissected-answer}
+use Rattle.command.proofs.RoundTrip.{one-lamp}
+use Rattle.answer.specs.Answers.{Reply, answerAddress, dissectingAnswer}
+use Rattle.answer.proofs.RoundTrip.{lamp-address}
+use Rattle.answer.proofs.Answering.{replied, answer-done, dissect-answer-named, dissected-answer}
 
 -- A row whose command has an answer of as many bytes as its payload.
 alike : Outcome Row → Bool
@@ -54,3 +62,28 @@ either-only s m a e f =
     ap (λ (x : Message). x .number) (g .message)
     ∙ only-alike (d .0 .command) (g .row) (g .known) (sym (ap (λ (r : Row). eqb (r .answer) 0) row) ∙ h .some)
     (sym (eqb-true (d .0 .size) (g .row .payload) (g .fits)) ∙ size)
+
+-- A cast that the column of one lamp lists is one lamp.
+one-listed : (cast : Cast) → castListed Single cast ≡ true → (a : Address) × (cast ≡ One a)
+one-listed Everyone h = absurd (false≢true h)
+one-listed (One a) h = (a, refl)
+one-listed (Group g) h = absurd (false≢true h)
+
+-- Every command of that number is accepted as an answer too.
+pub either-is : (s : List ℕ) (m : Sent) → dissecting s ≡ done m → m .message .number ≡ 0x2D → (a : Reply) × (dissectingAnswer s ≡ done a)
+unfolding rowOf
+either-is s m e n =
+    let d = dissected s e in
+    let t : Telegram = d .0 in
+    let g = named s t m (d .1 .1) in
+    let k : t .command ≡ 0x2D = sym (ap (λ (x : Message). x .number) (g .message)) ∙ n in
+    let row : g .row ≡ record { casts = Single; payload = 2; answer = 2 } = done-one (sym (g .known) ∙ ap rowOf k) in
+    let one = one-listed (m .cast) (sym (ap (λ (r : Row). castListed (r .casts) (m .cast)) row) ∙ g .listed) in
+    let in-range = one-lamp s m (one .0) e (one .1) in
+    let address : t .address .0 ≡ one .0 .0 = sym (reached (t .address .0) (m .cast) (g .to) .address) ∙ ap addressOf (one .1) in
+    let from : answerAddress (t .command) (t .address .0) ≡ true =
+    ap (answerAddress (t .command)) address ∙ lamp-address (t .command) (one .0 .0) (in-range .0) (in-range .1) in
+    let size : t .size ≡ g .row .answer =
+    eqb-true (t .size) (g .row .payload) (g .fits) ∙ ap (λ (r : Row). r .payload) row ∙ sym (ap (λ (r : Row). r .answer) row) in
+    let some : g .row .answer ≡ 0 → ⊥ = λ z. let y : _≡_ {A = ℕ} 2 0 = sym (ap (λ (r : Row). r .answer) row) ∙ z in omega arith in
+    (_, sym (dissect-answer-named s (d .1 .0)) ∙ sym (answer-done s t (g .row) (g .known) some from size _ refl))

@@ -7,7 +7,7 @@ use Prim.Native.Nat.{ℕ, _+_, _≤_, _<_}
 use native.Mathlib.Omega.{arith}
 use lib.Dec.{eqb, leb}
 use lib.ListN.{length}
-use borrow.Author.Tests.{eqb-true, leb-true}
+use borrow.Author.Tests.{eqb-true, leb-true, ne-eqb, le-leb}
 use Rattle.telegram.specs.Numbers.{done}
 use Rattle.telegram.specs.Telegram.{Bytes, reading, telegramOf, building, payloadIn}
 use Rattle.telegram.specs.declared.Telegram.{Telegram}
@@ -32,6 +32,10 @@ address-fits n a h = go (eqb a 0) refl h
     go : (b : Bool) → eqb a 0 ≡ b → cond b (eqb n 0x02 || eqb n 0x03) (leb a 0x3EF) ≡ true → a ≤ 1023
     go true e k = omega (arith, eqb-true a 0 e)
     go false e k = omega (arith, leb-true a 0x3EF k)
+
+-- An answer may have the address of every lamp.
+pub lamp-address : (n a : ℕ) → 1 ≤ a → a ≤ 0x3EF → answerAddress n a ≡ true
+lamp-address n a l h = simp (ne-eqb a 0 (λ e. omega arith), le-leb a 0x3EF h)
 
 -- What is built as an answer is accepted: from an address that an answer may have, with as many bytes as the table has for it.
 pub built-answers : (a n : ℕ) (p : List ℕ) → answerAddress n a ≡ true → answerSizeOf n ≡ done (length p) → 0 < length p

@@ -8,7 +8,7 @@ use Prim.Native.Nat.{ℕ, suc, _+_, _≤_, _<_}
 use native.Mathlib.Omega.{arith}
 use lib.Dec.{eqb}
 use lib.ListN.{length}
-use borrow.Author.Tests.{ne-eqb, le-leb, eqb-true}
+use borrow.Author.Tests.{eqb-true}
 use Rattle.telegram.specs.Numbers.{Outcome, refused, done, refuse}
 use Rattle.telegram.specs.declared.Address.{Address}
 use Rattle.telegram.proofs.Outcomes.{never, done-one, passed}
@@ -19,7 +19,7 @@ use Rattle.table.specs.declared.Cast.the-variants.{Everyone, One, Group}
 use Rattle.command.specs.Commands.{Message, Sent, dissecting}
 use Rattle.command.proofs.RoundTrip.{one-lamp}
 use Rattle.answer.specs.Answers.{answerAddress}
-use Rattle.answer.proofs.RoundTrip.{built-answers}
+use Rattle.answer.proofs.RoundTrip.{built-answers, lamp-address}
 use Rattle.rules.specs.declared.Defaults.{Defaults}
 use Rattle.rules.specs.declared.Lamp.{Lamp}
 use Rattle.rules.specs.Lamp.{report, acted, answered, numberedAs, withCE}
@@ -60,10 +60,6 @@ answers t n i y a (z ∷ zs) from size carries asked last x xs e = (
       }),
   last,
 )
-
--- An answer may have the address of every lamp.
-lamp-address : (n a : ℕ) → 1 ≤ a → a ≤ 0x3EF → answerAddress n a ≡ true
-lamp-address n a l h = simp (ne-eqb a 0 (λ e. omega arith), le-leb a 0x3EF h)
 
 -- RESET has no answer.
 reset-silent : (n k : ℕ) → answerSizeOf n ≡ done (suc k) → n ≡ 0x00 → ⊥

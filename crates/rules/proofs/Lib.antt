@@ -1,6 +1,6 @@
 pub mod Walks
-pub mod Acknowledged
 pub mod Deliveries
+pub mod Acknowledged
 pub mod Starting
 pub mod Kept
 pub mod Alone

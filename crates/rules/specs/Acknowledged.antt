@@ -1,14 +1,17 @@
--- Document 02, request 02: what is said of acknowledged commands, over the rules of one lamp.
+-- Document 02, request 02: what is said of acknowledged commands, over the rules of a lamp and of the chain.
 -- Assumes nothing.
 use mathlib.Core.Path.{_≡_}
 use mathlib.Core.Bool.{true}
-use mathlib.Core.List.{[]}
+use mathlib.Core.List.{List, []}
+use Prim.Native.Nat.{ℕ}
+use Rattle.telegram.specs.Numbers.{done}
 use Rattle.table.specs.Table.{acknowledged, plainNumber}
-use Rattle.command.specs.Commands.{Message, numbered}
+use Rattle.command.specs.Commands.{Message, numbered, Sent, dissecting}
 use Rattle.rules.specs.declared.Defaults.{Defaults}
 use Rattle.rules.specs.declared.Lamp.{Lamp}
 use Rattle.rules.specs.declared.State.the-variants.{Uninitialized}
 use Rattle.rules.specs.Lamp.{acted, answered}
+use Rattle.rules.specs.Chain.{Chain, deliver}
 
 -- The plain form of a command: the same fields under its number.
 abbrev pub plainForm : Message → Message
@@ -21,6 +24,13 @@ readTempStatus = numbered 0x42 []
 -- "Each does what its plain form does": so every lamp becomes.
 unfoldable pub ChangesAsPlain : Type 0
 ChangesAsPlain = (d : Defaults) (m : Message) (l : Lamp) → acted d m l ≡ acted d (plainForm m) l
+
+-- So every chain is left: by a telegram of an acknowledged command as by one of its plain form for the same cast.
+unfoldable pub LeavesAsPlain : Type 0
+LeavesAsPlain =
+    (c : Chain) (s plain : List ℕ) (t : Sent) (room : ℕ) → dissecting s ≡ done t → acknowledged (t .message .number) ≡ true
+    → dissecting plain ≡ done (record { message = plainForm (t .message); cast = t .cast })
+    → deliver c s room .chain ≡ deliver c plain room .chain
 
 -- "Clearing no flag": the lamp keeps every flag.
 unfoldable pub KeepsFlags : Type 0
