@@ -1,4 +1,4 @@
-// What one lamp does with a command: document 01, "A lamp and the chain".
+// What one lamp does with a command: document 01, "A lamp and the chain"; document 02, request 02.
 use rules::Defaults;
 use rules::Flags;
 use rules::Lamp;
@@ -8,8 +8,7 @@ use rules::Words;
 use telegram::Address;
 ghost use mathlib.Core.Path.{_≡_};
 ghost use mathlib.Core.Bool.{_||_, not};
-ghost use mathlib.Core.List.{[], _∷_, _++_};
-ghost use mathlib.Core.List.{List};
+ghost use mathlib.Core.List.{List, [], _∷_, _++_};
 ghost use Prim.Native.Nat.{ℕ, _≤_, _/_, _%_};
 ghost use Rattle.command.specs.Fields.{wordBytes};
 ghost use Rattle.command.specs.Commands.{numbered};
