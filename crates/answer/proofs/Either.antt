@@ -1,7 +1,7 @@
 -- Which telegrams are both a command and an answer: those of SETMULT acknowledged alone.
 -- Assumes nothing.
 use mathlib.Core.Path.{_≡_, refl, sym, ap, _∙_}
-use mathlib.Core.Bool.{Bool, true, false, false≢true, not, _&&_, _||_}
+use mathlib.Core.Bool.{Bool, true, false, not, _&&_, _||_}
 use mathlib.Core.List.{List}
 use Prim.Native.Nat.{ℕ, _≤_}
 use native.Mathlib.Omega.{arith}
@@ -9,17 +9,15 @@ use lib.Dec.{eqb, ltb, eqb→eq}
 use borrow.Author.Tests.{eqb-true, eq-eqb, ltb-true, ltb-false}
 use Rattle.checksum.proofs.Below.{at}
 use Rattle.telegram.specs.Numbers.{Outcome, refused, done}
-use Rattle.telegram.specs.declared.Address.{Address}
 use Rattle.telegram.specs.declared.Telegram.{Telegram}
 use Rattle.telegram.proofs.Outcomes.{never, done-one}
 use Rattle.table.specs.Casts.{addressOf}
 use Rattle.table.specs.Table.{rowOf, castListed}
-use Rattle.table.specs.declared.Cast.{Cast}
-use Rattle.table.specs.declared.Cast.the-variants.{Everyone, One, Group}
 use Rattle.table.specs.declared.Casts.the-variants.{Single}
 use Rattle.table.specs.declared.Row.{Row}
 use Rattle.table.proofs.Table.{T-or, row-high}
 use Rattle.table.proofs.Destinations.{reached}
+use Rattle.table.proofs.Acknowledged.{one-listed}
 use Rattle.command.specs.Commands.{Message, Sent, dissecting}
 use Rattle.command.proofs.Naming.{named, dissected}
 use Rattle.command.proofs.RoundTrip.{one-lamp}
@@ -62,12 +60,6 @@ either-only s m a e f =
     ap (λ (x : Message). x .number) (g .message)
     ∙ only-alike (d .0 .command) (g .row) (g .known) (sym (ap (λ (r : Row). eqb (r .answer) 0) row) ∙ h .some)
     (sym (eqb-true (d .0 .size) (g .row .payload) (g .fits)) ∙ size)
-
--- A cast that the column of one lamp lists is one lamp.
-one-listed : (cast : Cast) → castListed Single cast ≡ true → (a : Address) × (cast ≡ One a)
-one-listed Everyone h = absurd (false≢true h)
-one-listed (One a) h = (a, refl)
-one-listed (Group g) h = absurd (false≢true h)
 
 -- Every command of that number is accepted as an answer too.
 pub either-is : (s : List ℕ) (m : Sent) → dissecting s ≡ done m → m .message .number ≡ 0x2D → (a : Reply) × (dissectingAnswer s ≡ done a)

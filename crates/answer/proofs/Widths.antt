@@ -9,7 +9,7 @@ use lib.ListN.{length}
 use borrow.Author.Tests.{eq-eqb}
 use Rattle.telegram.specs.Numbers.{Outcome, refused, done}
 use Rattle.table.specs.Table.{rowOf, acknowledged, answerSizeOf}
-use Rattle.command.specs.Fields.{octets, fieldsBy}
+use Rattle.command.specs.Fields.{octets}
 use Rattle.answer.specs.Answers.{acknowledgedNumber, answerMessageOf, answerLayoutOf, answerPayloadOf}
 use Rattle.answer.specs.declared.Acknowledged.{Acknowledged}
 use Rattle.answer.specs.declared.Acknowledged.the-variants.{GoSleep, GoActive, GoDeepSleep, SetMult, SetThresholds, SetSetup, SetPwm}
@@ -29,21 +29,21 @@ answer-wide n h p l e =
     wide answerLayoutOf (λ (m k : ℕ). has (answerSizeOf m) k) tt n h p l
     (ap (λ (o : Outcome ℕ). has o (length p)) e ∙ eq-eqb (length p) (length p) refl)
 
--- The bytes of an answer to an acknowledged command are its fields: by its number ..
-pub acknowledged-fields : (p : List ℕ) (n : ℕ) → acknowledged n ≡ true → fieldsBy (answerLayoutOf n) p ≡ p
+-- Each byte of an answer to an acknowledged command is a field by itself ..
+pub acknowledged-octets : (n : ℕ) → acknowledged n ≡ true → octets ≡ answerLayoutOf n
 unfolding answerLayoutOf
-acknowledged-fields p = by-acknowledged (λ (n : ℕ). fieldsBy (answerLayoutOf n) p ≡ p) refl refl refl refl refl refl refl
+acknowledged-octets = by-acknowledged (λ (n : ℕ). octets ≡ answerLayoutOf n) refl refl refl refl refl refl refl
 
--- .. and by its name.
-pub acknowledged-octets : (c : Acknowledged) → octets ≡ answerLayoutOf (acknowledgedNumber c)
-unfolding answerLayoutOf
-acknowledged-octets GoSleep = refl
-acknowledged-octets GoActive = refl
-acknowledged-octets GoDeepSleep = refl
-acknowledged-octets SetMult = refl
-acknowledged-octets SetThresholds = refl
-acknowledged-octets SetSetup = refl
-acknowledged-octets SetPwm = refl
+-- .. and each name of such a command has an acknowledged number.
+pub named-acknowledged : (c : Acknowledged) → acknowledged (acknowledgedNumber c) ≡ true
+unfolding acknowledged
+named-acknowledged GoSleep = refl
+named-acknowledged GoActive = refl
+named-acknowledged GoDeepSleep = refl
+named-acknowledged SetMult = refl
+named-acknowledged SetThresholds = refl
+named-acknowledged SetSetup = refl
+named-acknowledged SetPwm = refl
 
 -- No answer is longer than 8 bytes.
 pub answer-short : (a : Answer) → length (answerPayloadOf (answerMessageOf a)) ≤ 8
@@ -58,4 +58,4 @@ answer-short (Temp t) = lit≤ tt
 answer-short (Thresholds x y z) = lit≤ tt
 answer-short (Setup x) = lit≤ tt
 answer-short (Words r g b) = lit≤ tt
-answer-short (Acknowledgement c t x) = rw (← acknowledged-octets c) (lit≤ tt)
+answer-short (Acknowledgement c t x) = rw (← acknowledged-octets (acknowledgedNumber c) (named-acknowledged c)) (lit≤ tt)

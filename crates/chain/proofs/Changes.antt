@@ -15,7 +15,7 @@ use Rattle.command.specs.Fields.{octets, word, pwm, layoutOf, fieldsBy}
 use Rattle.command.specs.Commands.{numbered}
 use Rattle.rules.specs.declared.Defaults.{Defaults}
 use Rattle.rules.specs.declared.Lamp.{Lamp}
-use Rattle.rules.specs.Lamp.{changedBy, changed, cleared, withPwm}
+use Rattle.rules.specs.Lamp.{changedPlain, changed, cleared, withPwm}
 use Rattle.chain.specs.Places.{wordsAt}
 use Rattle.chain.specs.Helpers.{commandIn}
 
@@ -40,9 +40,9 @@ module _ (d : Defaults) (p : List ℕ) (l : Lamp) where
 
   -- A command does what the command of its plain form's number does.
   changed-plain : (n : ℕ) → changed d (commandIn (plainNumber n) p) l ≡ changed d (commandIn n p) l
-  unfolding changedBy layoutOf
+  unfolding changedPlain layoutOf
   changed-plain n =
-      ap (λ (x : ℕ). changedBy x d (numbered n (fieldsBy (cond (eqb x 0x0D) word (cond (eqb x 0x4F) pwm octets)) p)) l) (plain-plain n)
+      ap (λ (x : ℕ). changedPlain d (numbered x (fieldsBy (cond (eqb x 0x0D) word (cond (eqb x 0x4F) pwm octets)) p)) l) (plain-plain n)
 
   -- So a number that is a plain one or its acknowledged form does what the plain one does.
   pub changed-either : {n k j : ℕ} → (n ≡ k) ⊎ (n ≡ j) → plainNumber j ≡ k → changed d (commandIn k p) l ≡ changed d (commandIn n p) l
@@ -52,12 +52,12 @@ module _ (d : Defaults) (p : List ℕ) (l : Lamp) where
 
   -- SETPWM stores the three words as they are.
   pub changed-pwm : withPwm (wordsAt p 0) l ≡ changed d (commandIn 0x4F p) l
-  unfolding changedBy layoutOf plainNumber acknowledged
+  unfolding changedPlain layoutOf plainNumber acknowledged
   changed-pwm = simp pwm-whole
 
   -- CLRERROR, READSTATUS and READTEMPST clear the flags.
   pub changed-cleared : {n : ℕ} → (n ≡ 0x01) ⊎ ((n ≡ 0x40) ⊎ (n ≡ 0x42)) → cleared l ≡ changed d (commandIn n p) l
-  unfolding changedBy plainNumber acknowledged
+  unfolding changedPlain plainNumber acknowledged
   changed-cleared (inl e) = changed-key e
   changed-cleared (inr (inl e)) = changed-key e
   changed-cleared (inr (inr e)) = changed-key e
@@ -66,7 +66,7 @@ module _ (d : Defaults) (p : List ℕ) (l : Lamp) where
   pub changed-not : {n : ℕ}
       → ((((((((Unit {0} × n ≢ 0x00) × ((n ≡ 0x01) ⊎ ((n ≡ 0x40) ⊎ (n ≡ 0x42)) → ⊥)) × Neither n 0x04) × Neither n 0x05) × Neither n 0x06) × Neither n 0x0D) × Neither n 0x4B) × Neither n 0x4D) × Neither n 0x4F
       → l ≡ changed d (commandIn n p) l
-  unfolding changedBy
+  unfolding changedPlain
   changed-not {n} h =
       let f = h .0 .0 .0 .0 .0 .0 .0 .1 in
       let plain : acknowledged n ≡ false =

@@ -17,7 +17,7 @@ use Rattle.table.proofs.Acknowledged.{acknowledged-answer}
 use Rattle.command.specs.Commands.{Message}
 use Rattle.rules.specs.declared.Defaults.{Defaults}
 use Rattle.rules.specs.declared.Lamp.{Lamp}
-use Rattle.rules.specs.Lamp.{obeys, toldBy, answered}
+use Rattle.rules.specs.Lamp.{obeys, toldPlain, answered}
 use Rattle.rules.proofs.Walks.{where-true, either}
 use Rattle.lamp.specs.declared.Payload.{Payload}
 use Rattle.lamp.specs.Reactions.{padded}
@@ -43,7 +43,7 @@ Sized n (x ∷ xs) = answerSizeOf n ≡ done (length (x ∷ xs))
 
 -- What a lamp answers is so.
 pub answered-sized : (d : Defaults) (m : Message) (l : Lamp) → Sized (m .number) (answered d m l)
-unfolding answered toldBy rowOf
+unfolding answered toldPlain rowOf
 answered-sized d m l =
     either (Sized n) (obeys n (l .state))
     (where-true (Sized n) (acknowledged n) (acknowledged-answer n)

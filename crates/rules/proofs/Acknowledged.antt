@@ -1,31 +1,35 @@
 -- Acknowledged commands: what they make of a lamp and of a chain, and what the lamp answers.
 -- Assumes nothing.
-use mathlib.Core.Path.{_≡_, refl, sym, ap, ap₂, _∙_}
+use mathlib.Core.Path.{_≡_, refl, sym, ap, ap₂, _∙_, subst}
 use mathlib.Core.Bool.{Bool, true, false, cond, not, _||_}
 use mathlib.Core.List.{List, [], _∷_}
 use Prim.Native.Nat.{ℕ, suc}
 use lib.Dec.{eqb, leb}
 use Rattle.telegram.specs.Numbers.{Outcome, refused, done}
-use Rattle.table.specs.Table.{acknowledged, plainNumber}
+use Rattle.telegram.proofs.Outcomes.{done-one}
+use Rattle.table.specs.Table.{rowOf, acknowledged, plainNumber, castListed}
+use Rattle.table.specs.declared.Row.{Row}
 use Rattle.table.specs.declared.Cast.{Cast}
 use Rattle.table.specs.declared.Cast.the-variants.{Everyone, One, Group}
-use Rattle.table.proofs.Acknowledged.{by-acknowledged, plain-plain, plain-low}
+use Rattle.table.proofs.Acknowledged.{by-acknowledged, plain-plain, plain-low, acknowledged-row, one-listed}
 use Rattle.command.specs.Commands.{Message, numbered, Sent}
+use Rattle.command.proofs.Naming.{named, dissected}
 use Rattle.rules.specs.declared.Defaults.{Defaults}
 use Rattle.rules.specs.declared.Lamp.{Lamp}
 use Rattle.rules.specs.declared.State.{State}
 use Rattle.rules.specs.declared.State.the-variants.{Uninitialized, Sleep, Active, DeepSleep}
-use Rattle.rules.specs.Lamp.{withState, uninitialized, obeys, changedBy, toldBy, acted, answered, member}
+use Rattle.rules.specs.Lamp.{withState, uninitialized, obeys, changedPlain, plainForm, toldPlain, acted, answered, member}
 use Rattle.rules.specs.Chain.{withLamps, Step, onward, ends, Walked, stepped, walk, answerFrom, reaching, isInit, roomSmall, delivering, deliver}
-use Rattle.rules.specs.Acknowledged.{plainForm, readTempStatus, ChangesAsPlain, LeavesAsPlain, KeepsFlags, AnswersAfterwards, PassedBy}
+use Rattle.rules.specs.Lists.{OneLamp}
+use Rattle.rules.specs.Acknowledged.{readTempStatus, ChangesAsPlain, LeavesAsPlain, KeepsFlags, AnswersAfterwards, PassedBy, MayStandInLists}
 use Rattle.rules.proofs.Walks.{either}
 use Rattle.rules.proofs.Deliveries.{plain-walks}
 
 -- An acknowledged command makes of a lamp what its plain form does ..
 as-plain : (d : Defaults) (m : Message) (l : Lamp) → acted d m l ≡ acted d (plainForm m) l
-unfolding acted changedBy
+unfolding acted changedPlain
 as-plain d m l =
-    ap₂ (λ (low : Bool) (n : ℕ). cond (not (uninitialized (l .state)) || low) (changedBy n d m l) l)
+    ap₂ (λ (low : Bool) (n : ℕ). cond (not (uninitialized (l .state)) || low) (changedPlain d (numbered n (m .fields)) l) l)
     (sym (plain-low (m .number))) (sym (plain-plain (m .number)))
 
 pub changes-as-plain : ChangesAsPlain
@@ -99,10 +103,10 @@ leaves-as-plain c s plain t room e h f =
 
 -- It keeps every flag.
 pub keeps-flags : KeepsFlags
-unfolding KeepsFlags acted changedBy plainNumber acknowledged
+unfolding KeepsFlags acted changedPlain plainNumber acknowledged
 keeps-flags d m l h =
     either (λ (x : Lamp). x .flags ≡ l .flags) (obeys (m .number) (l .state))
-    (by-acknowledged (λ (n : ℕ). changedBy (plainNumber n) d m l .flags ≡ l .flags) refl refl refl refl refl refl refl (m .number) h)
+    (by-acknowledged (λ (n : ℕ). changedPlain d (numbered (plainNumber n) (m .fields)) l .flags ≡ l .flags) refl refl refl refl refl refl refl (m .number) h)
     refl
 
 -- By the state and by the number, computed. (A lamp is itself with its own state.)
@@ -111,7 +115,7 @@ module _ (d : Defaults) (f : List ℕ) where
   Afterwards n l = answered d (numbered n f) l ≡ answered d readTempStatus (acted d (numbered n f) l)
 
   in-state : (s : State) (l : Lamp) → (n : ℕ) → acknowledged n ≡ true → Afterwards n (withState s l)
-  unfolding answered acted changedBy toldBy plainNumber acknowledged
+  unfolding answered acted changedPlain toldPlain plainNumber acknowledged
   in-state Uninitialized l = by-acknowledged (λ (n : ℕ). Afterwards n (withState Uninitialized l)) refl refl refl refl refl refl refl
   in-state Sleep l = by-acknowledged (λ (n : ℕ). Afterwards n (withState Sleep l)) refl refl refl refl refl refl refl
   in-state Active l = by-acknowledged (λ (n : ℕ). Afterwards n (withState Active l)) refl refl refl refl refl refl refl
@@ -126,3 +130,15 @@ unfolding PassedBy acted answered acknowledged
 passed-by d m l h e =
     let no : obeys (m .number) (l .state) ≡ false = rw e (by-acknowledged (λ (n : ℕ). leb n 0x01 ≡ false) refl refl refl refl refl refl refl (m .number) h) in
     (rw no, rw no)
+
+-- What the dissector accepts of them is for one lamp and no init.
+pub may-stand-in-lists : MayStandInLists
+unfolding MayStandInLists
+may-stand-in-lists s t e h =
+    let d = dissected s e in
+    let g = named s (d .0) t (d .1 .1) in
+    let n = ap (λ (x : Message). x .number) (g .message) in
+    let r = acknowledged-row (t .message .number) h in
+    let row = done-one (sym (g .known) ∙ sym (ap rowOf n) ∙ r .1 .1) in
+    let one = one-listed (t .cast) (sym (ap (λ (x : Row). castListed (x .casts) (t .cast)) row) ∙ g .listed) in
+    (plain-no-init (t .message .number) h .0, subst OneLamp (sym (one .1)) tt)

@@ -22,7 +22,7 @@ use Rattle.rules.specs.declared.Defaults.{Defaults}
 use Rattle.rules.specs.declared.Lamp.{Lamp}
 use Rattle.rules.specs.declared.State.{State}
 use Rattle.rules.specs.declared.State.the-variants.{Sleep, Active, DeepSleep}
-use Rattle.rules.specs.Lamp.{noAddress, reset, cleared, withState, withGroups, withThresholds, withSetup, withPwm, field, pwmWords, changedBy, acted, answered, obeys}
+use Rattle.rules.specs.Lamp.{noAddress, reset, cleared, withState, withGroups, withThresholds, withSetup, withPwm, field, pwmWords, changedPlain, acted, answered, obeys}
 use Rattle.rules.specs.Chain.{Step, onward, ends, Walked, stepped, walk, answerFrom, reaching, lampIn}
 
 -- The lamp that a step leaves.
@@ -133,7 +133,7 @@ pub record Cases (P : Lamp → Type 0) (d : Defaults) (m : Message) (l : Lamp) :
 
 -- What holds in each case holds of the lamp after the command.
 pub acted-cases : (P : Lamp → Type 0) (d : Defaults) (m : Message) (l : Lamp) → Cases P d m l → P (acted d m l)
-unfolding acted changedBy
+unfolding acted changedPlain
 acted-cases P d m l c =
     let n = plainNumber (m .number) in
     either P (obeys (m .number) (l .state))

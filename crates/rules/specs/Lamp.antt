@@ -9,7 +9,7 @@ use lib.ListN.{getD}
 use Rattle.telegram.specs.declared.Address.{Address}
 use Rattle.table.specs.Table.{acknowledged, plainNumber}
 use Rattle.command.specs.Fields.{wordBytes}
-use Rattle.command.specs.Commands.{Message}
+use Rattle.command.specs.Commands.{Message, numbered}
 use Rattle.rules.specs.declared.State.{State}
 use Rattle.rules.specs.declared.State.the-variants.{Uninitialized, Sleep, Active, DeepSleep}
 use Rattle.rules.specs.declared.Flags.{Flags}
@@ -125,24 +125,28 @@ pwmWords f = record { red = pwmWord f 0; green = pwmWord f 2; blue = pwmWord f 4
 
 -- What a lamp that obeys a plain command becomes, by the command's number. CLRERROR, READSTATUS and READTEMPST clear the five flags, GO
 -- commands set the state, set commands store; the others change nothing.
-unfoldable pub changedBy : ℕ → Defaults → Message → Lamp → Lamp
-changedBy n d m l =
-    cond (eqb n 0x00) (reset d l)  -- RESET
-    (cond (eqb n 0x01) (cleared l)  -- CLRERROR
-    (cond (eqb n 0x04) (withState Sleep l)  -- GOSLEEP
-    (cond (eqb n 0x05) (withState Active l)  -- GOACTIVE
-    (cond (eqb n 0x06) (withState DeepSleep l)  -- GODEEPSLEEP
-    (cond (eqb n 0x0D) (withGroups (field m 0) l)  -- SETMULT
-    (cond (eqb n 0x40) (cleared l)  -- READSTATUS
-    (cond (eqb n 0x42) (cleared l)  -- READTEMPST
-    (cond (eqb n 0x4B) (withThresholds (record { cycle = field m 0; low = field m 1; high = field m 2 }) l)  -- SETOTTH
-    (cond (eqb n 0x4D) (withSetup (field m 0) l)  -- SETSETUP
-    (cond (eqb n 0x4F) (withPwm (pwmWords (m .fields)) l)  -- SETPWM
+unfoldable pub changedPlain : Defaults → Message → Lamp → Lamp
+changedPlain d m l =
+    cond (eqb (m .number) 0x00) (reset d l)  -- RESET
+    (cond (eqb (m .number) 0x01) (cleared l)  -- CLRERROR
+    (cond (eqb (m .number) 0x04) (withState Sleep l)  -- GOSLEEP
+    (cond (eqb (m .number) 0x05) (withState Active l)  -- GOACTIVE
+    (cond (eqb (m .number) 0x06) (withState DeepSleep l)  -- GODEEPSLEEP
+    (cond (eqb (m .number) 0x0D) (withGroups (field m 0) l)  -- SETMULT
+    (cond (eqb (m .number) 0x40) (cleared l)  -- READSTATUS
+    (cond (eqb (m .number) 0x42) (cleared l)  -- READTEMPST
+    (cond (eqb (m .number) 0x4B) (withThresholds (record { cycle = field m 0; low = field m 1; high = field m 2 }) l)  -- SETOTTH
+    (cond (eqb (m .number) 0x4D) (withSetup (field m 0) l)  -- SETSETUP
+    (cond (eqb (m .number) 0x4F) (withPwm (pwmWords (m .fields)) l)  -- SETPWM
     l))))))))))
+
+-- The plain form of a command: the same fields under its number.
+abbrev pub plainForm : Message → Message
+plainForm m = numbered (plainNumber (m .number)) (m .fields)
 
 -- What a lamp that obeys a command becomes: each acknowledged command does what its plain form does.
 abbrev pub changed : Defaults → Message → Lamp → Lamp
-changed d m l = changedBy (plainNumber (m .number)) d m l
+changed d m l = changedPlain d (plainForm m) l
 
 -- READTEMPST is temperature, then status.
 abbrev pub report : Lamp → List ℕ
@@ -150,8 +154,8 @@ report l = l .temperature ∷ statusOf l ∷ []
 
 -- What a lamp that obeys a plain command answers, by the command's number: the register as it stood when the command came, so flags are
 -- answered before they are cleared. No bytes is no answer.
-unfoldable pub toldBy : ℕ → Lamp → List ℕ
-toldBy n l =
+unfoldable pub toldPlain : ℕ → Lamp → List ℕ
+toldPlain n l =
     cond (eqb n 0x07) (0 ∷ 0 ∷ 0 ∷ 0 ∷ [])  -- IDENTIFY
     (cond (eqb n 0x0C) (wordBytes (l .groups))  -- READMULT
     (cond (eqb n 0x40) (statusOf l ∷ [])  -- READSTATUS
@@ -165,7 +169,7 @@ toldBy n l =
 -- What a lamp that obeys a command answers. An acknowledged command does what its plain form does, then answers with the two bytes of
 -- READTEMPST as they stand after the effect, clearing no flag.
 abbrev pub told : Defaults → Message → Lamp → List ℕ
-told d m l = cond (acknowledged (m .number)) (report (changed d m l)) (toldBy (m .number) l)
+told d m l = cond (acknowledged (m .number)) (report (changed d m l)) (toldPlain (m .number) l)
 
 -- The state is UNINITIALIZED.
 abbrev pub uninitialized : State → Bool

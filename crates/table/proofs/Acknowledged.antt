@@ -2,7 +2,7 @@
 -- Assumes nothing.
 use mathlib.Core.Path.{_≡_, refl, sym, ap, _∙_, subst}
 use mathlib.Core.Logic.{_⊎_, inl, inr}
-use mathlib.Core.Bool.{Bool, true, false, not, _&&_, _||_}
+use mathlib.Core.Bool.{Bool, true, false, false≢true, not, _&&_, _||_}
 use mathlib.Core.List.{List, [], _∷_}
 use Prim.Native.Nat.{ℕ, _-_, _/_, _%_, _≤_, _<_}
 use native.Mathlib.Omega.{arith}
@@ -11,7 +11,10 @@ use lib.Dec.{eqb, leb, ltb, eqb→eq, lit≤}
 use borrow.Author.Tests.{eqb-true, leb-true, eq-eqb, ltb-true, ltb-false}
 use Rattle.checksum.proofs.Below.{at}
 use Rattle.telegram.specs.Numbers.{refused, done}
-use Rattle.table.specs.Table.{row, rowOf, acknowledged, plainNumber, answerSizeOf}
+use Rattle.telegram.specs.declared.Address.{Address}
+use Rattle.table.specs.Table.{row, rowOf, acknowledged, plainNumber, castListed, answerSizeOf}
+use Rattle.table.specs.declared.Cast.{Cast}
+use Rattle.table.specs.declared.Cast.the-variants.{Everyone, One, Group}
 use Rattle.table.specs.declared.Casts.the-variants.{Single}
 use Rattle.table.specs.declared.Row.{Row}
 use Rattle.table.proofs.Both.{and-left, and-right}
@@ -111,7 +114,13 @@ acknowledged-row =
     by-acknowledged (λ (n : ℕ). (r : Row) × ((rowOf (plainNumber n) ≡ done r) × (rowOf n ≡ row Single (r .payload) 2)))
     (_, (refl, refl)) (_, (refl, refl)) (_, (refl, refl)) (_, (refl, refl)) (_, (refl, refl)) (_, (refl, refl)) (_, (refl, refl))
 
--- So its answer has two bytes.
+-- A cast that the column of one lamp lists is one lamp.
+pub one-listed : (cast : Cast) → castListed Single cast ≡ true → (a : Address) × (cast ≡ One a)
+one-listed Everyone h = absurd (false≢true h)
+one-listed (One a) h = (a, refl)
+one-listed (Group g) h = absurd (false≢true h)
+
+-- The answer to an acknowledged command has two bytes.
 pub acknowledged-answer : (n : ℕ) → acknowledged n ≡ true → answerSizeOf n ≡ done 2
 unfolding rowOf
 acknowledged-answer = by-acknowledged (λ (n : ℕ). answerSizeOf n ≡ done 2) refl refl refl refl refl refl refl

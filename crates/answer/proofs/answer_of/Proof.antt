@@ -15,9 +15,10 @@ use Rattle.table.specs.Table.{rowOf, answerSizeOf, acknowledged}
 use Rattle.answer.specs.Answers.{answerLayoutOf}
 use Rattle.table.proofs.Table.{sized, only-left}
 use Rattle.table.proofs.Acknowledged.{acknowledged-answer}
+use Rattle.command.specs.Fields.{Layout, fieldsBy}
 use Rattle.command.specs.Commands.{numbered}
 use Rattle.command.proofs.Layouts.{spread, keyed, pwm-six}
-use Rattle.answer.proofs.Widths.{acknowledged-fields}
+use Rattle.answer.proofs.Widths.{acknowledged-octets}
 use Rattle.answer.proofs.answer_of.Statement.{statement}
 use Rattle.answer.proofs.answer_of.Tie as tie
 
@@ -108,4 +109,4 @@ answer-of-spec =
     let m = c .before .before .before in
     let p = m .before .before .args .p .now in
     ap₂ numbered (c .before .before .acknowledged-of .ensures)
-    (spread 2 p (two m) ∙ sym (acknowledged-fields p (m .before .before .args .n) (rest m)))))
+    (spread 2 p (two m) ∙ ap (λ (l : Layout). fieldsBy l p) (acknowledged-octets (m .before .before .args .n) (rest m)))))

@@ -7,10 +7,10 @@ use Prim.Native.Nat.{ℕ}
 use Rattle.command.specs.Fields.{Layout, octets}
 use Rattle.command.specs.Commands.{numbered, partsBy}
 use Rattle.command.specs.declared.Parts.{Parts}
-use Rattle.answer.specs.Answers.{answerLayoutOf, answerMessageOf, answerLaidOut}
+use Rattle.answer.specs.Answers.{answerLayoutOf, acknowledgedNumber, answerMessageOf, answerLaidOut}
 use Rattle.answer.specs.declared.Answer.{Answer}
 use Rattle.answer.specs.declared.Answer.the-variants.{Acknowledgement}
-use Rattle.answer.proofs.Widths.{acknowledged-octets}
+use Rattle.answer.proofs.Widths.{acknowledged-octets, named-acknowledged}
 use Rattle.answer.proofs.answer_parts.Statement.{statement}
 use Rattle.answer.proofs.answer_parts.Tie as tie
 
@@ -59,5 +59,5 @@ answer-parts-spec =
     let g = c .before .before .before .a11 .given in
     c .two-bytes4 .ensures
     ∙ ap (λ (n : ℕ). partsBy octets (numbered n (g .0 .1 .0 ∷ g .0 .1 .1 .0 ∷ []))) (c .before .number-of .ensures)
-    ∙ ap (λ (l : Layout). partsBy l (answerMessageOf (Acknowledgement (g .0 .0) (g .0 .1 .0) (g .0 .1 .1 .0)))) (acknowledged-octets (g .0 .0))
+    ∙ ap (λ (l : Layout). partsBy l (answerMessageOf (Acknowledgement (g .0 .0) (g .0 .1 .0) (g .0 .1 .1 .0)))) (acknowledged-octets (acknowledgedNumber (g .0 .0)) (named-acknowledged (g .0 .0)))
     ∙ ap laid (sym (g .1))))

@@ -11,7 +11,7 @@ use Rattle.table.proofs.Acknowledged.{unacknowledged}
 use Rattle.command.specs.Commands.{numbered}
 use Rattle.rules.specs.declared.Defaults.{Defaults}
 use Rattle.rules.specs.declared.Lamp.{Lamp}
-use Rattle.rules.specs.Lamp.{report, changedBy, toldBy, told}
+use Rattle.rules.specs.Lamp.{report, changedPlain, toldPlain, told}
 use Rattle.lamp.specs.Reactions.{padded}
 use Rattle.lamp.proofs.told_bytes.Statement.{statement}
 use Rattle.lamp.proofs.told_bytes.Tie as tie
@@ -23,7 +23,7 @@ told-at l e d f = ap (λ (x : ℕ). padded (told d (numbered x f) l)) (sym e)
 -- READTEMPST, and those set commands that are acknowledged, are told temperature and status, which the latter do not change
 reported : {n : ℕ} (l : Lamp) → (n ≡ 0x2D) ⊎ ((n ≡ 0x42) ⊎ ((n ≡ 0x6B) ⊎ ((n ≡ 0x6D) ⊎ (n ≡ 0x6F)))) → (d : Defaults) (f : List ℕ)
     → padded (report l) ≡ padded (told d (numbered n f) l)
-unfolding toldBy changedBy plainNumber acknowledged
+unfolding toldPlain changedPlain plainNumber acknowledged
 reported l (inl e) = told-at l e
 reported l (inr (inl e)) = told-at l e
 reported l (inr (inr (inl e))) = told-at l e
@@ -34,7 +34,7 @@ reported l (inr (inr (inr (inr e)))) = told-at l e
 told-none : (n : ℕ) (l : Lamp)
     → ((((((((((Unit {0} × n ≢ 0x07) × n ≢ 0x0C) × n ≢ 0x40) × ((n ≡ 0x2D) ⊎ ((n ≡ 0x42) ⊎ ((n ≡ 0x6B) ⊎ ((n ≡ 0x6D) ⊎ (n ≡ 0x6F)))) → ⊥)) × n ≢ 0x24) × n ≢ 0x25) × n ≢ 0x26) × n ≢ 0x48) × n ≢ 0x4A) × n ≢ 0x4C) × n ≢ 0x4E
     → (d : Defaults) (f : List ℕ) → [] ≡ told d (numbered n f) l
-unfolding toldBy
+unfolding toldPlain
 told-none n l h d f =
     let g = h .0 .0 .0 .0 .0 .0 .0 .1 in
     let plain : acknowledged n ≡ false =
@@ -52,7 +52,7 @@ told-none n l h d f =
     )
 
 pub told-bytes-spec : {M : Type 1} → statement M
-unfolding toldBy changedBy plainNumber acknowledged
+unfolding toldPlain changedPlain plainNumber acknowledged
 told-bytes-spec =
     tie.close
     (tie.spec

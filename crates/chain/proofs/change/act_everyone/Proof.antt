@@ -7,7 +7,7 @@ use lib.ListN.{length}
 use Rattle.table.specs.Table.{acknowledged, plainNumber, sizeRight}
 use Rattle.rules.specs.declared.Defaults.{Defaults}
 use Rattle.rules.specs.declared.Lamp.{Lamp}
-use Rattle.rules.specs.Lamp.{changedBy, acted}
+use Rattle.rules.specs.Lamp.{changedPlain, acted}
 use Rattle.chain.specs.Places.{sweep}
 use Rattle.chain.specs.Helpers.{commandIn}
 use borrow.Author.Needs.{needs}
@@ -20,7 +20,7 @@ swept-at : (mem : List ℕ) (count : ℕ) (d : Defaults) (p : List ℕ) {n k : �
 swept-at mem count d p e = ap (λ (x : ℕ). sweep (λ (q : ℕ) (l : Lamp). acted d (commandIn x p) l) 0 count mem) (sym e)
 
 pub act-everyone-spec : {M : Type 1} → statement M
-unfolding changedBy acted plainNumber acknowledged
+unfolding changedPlain acted plainNumber acknowledged
 act-everyone-spec =
     tie.close
     (tie.spec

@@ -6,7 +6,7 @@ use native.Mathlib.Omega.{arith}
 use Rattle.table.specs.Table.{rowOf, acknowledged, plainNumber}
 use Rattle.command.specs.Fields.{layoutOf}
 use Rattle.rules.specs.declared.State.the-variants.{Sleep, Active, DeepSleep}
-use Rattle.rules.specs.Lamp.{changedBy, reset, withFlags, withState, withGroups, withThresholds, withSetup, withPwm}
+use Rattle.rules.specs.Lamp.{changedPlain, reset, withFlags, withState, withGroups, withThresholds, withSetup, withPwm}
 use Rattle.chain.specs.Places.{lampAt, withLamp}
 use Rattle.chain.proofs.Slots.{with-self}
 use Rattle.chain.proofs.Changes.{either-size, changed-key, changed-either, changed-cleared, changed-pwm, changed-not}
@@ -15,7 +15,7 @@ use Rattle.chain.proofs.change.alter.Statement.{statement}
 use Rattle.chain.proofs.change.alter.Tie as tie
 
 pub alter-spec : {M : Type 1} → statement M
-unfolding changedBy layoutOf rowOf plainNumber acknowledged
+unfolding changedPlain layoutOf rowOf plainNumber acknowledged
 alter-spec =
     tie.close
     (tie.spec

@@ -9,9 +9,18 @@ fn words(telegram: &str) -> String {
     output.lines().nth(2).unwrap()[40..].to_string()
 }
 
+/// Three PWM words.
+const PWM: [u8; 6] = [0x03, 0xE8, 0x87, 0xD0, 0x00, 0x00];
+
+/// Each command, to an address and with a payload, has these words.
+fn are_said(commands: &[(u32, Name, &[u8], &str)]) {
+    for &(address, name, payload, wanted) in commands {
+        assert_eq!(words(&telegram(address, name, payload)), wanted);
+    }
+}
+
 #[test]
 fn commands_are_said_as_on_the_page() {
-    let pwm = [0x03, 0xE8, 0x87, 0xD0, 0x00, 0x00];
     let said = [
         (0, Name::Reset, &[][..], "reset to everyone"),
         (0x3F3, Name::GoActive, &[], "goactive to group 3"),
@@ -34,18 +43,15 @@ fn commands_are_said_as_on_the_page() {
         (
             1,
             Name::SetPwm,
-            &pwm,
+            &PWM,
             "setpwm to lamp 001: red night 1000, green day 2000, blue night 0",
         ),
     ];
-    for (address, name, payload, wanted) in said {
-        assert_eq!(words(&telegram(address, name, payload)), wanted);
-    }
+    are_said(&said);
 }
 
 #[test]
 fn acknowledged_commands_have_sr_behind_their_names() {
-    let pwm = [0x03, 0xE8, 0x87, 0xD0, 0x00, 0x00];
     let said = [
         (1, Name::GoActiveSr, &[][..], "goactive_sr to lamp 001"),
         (
@@ -69,13 +75,11 @@ fn acknowledged_commands_have_sr_behind_their_names() {
         (
             1,
             Name::SetPwmSr,
-            &pwm,
+            &PWM,
             "setpwm_sr to lamp 001: red night 1000, green day 2000, blue night 0",
         ),
     ];
-    for (address, name, payload, wanted) in said {
-        assert_eq!(words(&telegram(address, name, payload)), wanted);
-    }
+    are_said(&said);
 }
 
 #[test]
@@ -93,12 +97,11 @@ fn every_command_has_its_name() {
 
 #[test]
 fn answers_are_said_as_on_the_page() {
-    let pwm = [0x03, 0xE8, 0x87, 0xD0, 0x00, 0x00];
     let script = [
         telegram(1, Name::InitLoop, &[]),
         telegram(0, Name::GoActive, &[]),
         telegram(0, Name::SetMult, &[0x00, 0x10]),
-        telegram(0, Name::SetPwm, &pwm),
+        telegram(0, Name::SetPwm, &PWM),
         "A0000023\nsensor 0 6B 3".to_string(),
         telegram(1, Name::Identify, &[]),
         telegram(3, Name::ReadMult, &[]),
