@@ -85,8 +85,8 @@ uint32_t osp_build(uint32_t address, uint32_t command, const uint8_t *payload, s
  * Acknowledged commands have bit 5 (hex 20) set in their number: 24, 25, 26,
  * 2D, 6B, 6D and 6F. One goes to one lamp, does what its plain form does, and
  * is answered with temperature and status as they stand afterwards; no flag is
- * cleared. A telegram of 2D is taken by both dissectors below: nothing in it
- * says whether the host sent it, with a group word, or the lamp answered.
+ * cleared. A command of 2D is taken by both dissectors below: nothing in its
+ * bytes says whether the host sent them, with a group word, or a lamp answered.
  */
 
 /*
