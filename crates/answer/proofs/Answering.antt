@@ -7,7 +7,7 @@ use mathlib.Core.List.{List}
 use Prim.Native.Nat.{ℕ}
 use lib.Dec.{eqb}
 use borrow.Author.Tests.{eq-eqb, ne-eqb, eqb-true, not-false}
-use Rattle.telegram.specs.Numbers.{refused, done}
+use Rattle.telegram.specs.Numbers.{Reason, refusedFor, refused, done}
 use Rattle.telegram.specs.Telegram.{reading, payloadIn}
 use Rattle.telegram.specs.declared.Telegram.{Telegram}
 use Rattle.telegram.proofs.Outcomes.{done-one, passed, went-on}
@@ -67,7 +67,7 @@ replied s t a e =
     }
 
 module _ (s : List ℕ) where
-  pub dissect-answer-refused : {n : ℕ} → reading s ≡ refused n → refused n ≡ dissectingAnswer s
+  pub dissect-answer-refused : {d : Reason} → reading s ≡ refusedFor d → refusedFor d ≡ dissectingAnswer s
   unfolding dissectingAnswer
   dissect-answer-refused e = simp e
 

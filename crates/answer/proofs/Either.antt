@@ -8,7 +8,7 @@ use native.Mathlib.Omega.{arith}
 use lib.Dec.{eqb, ltb, eqb→eq}
 use borrow.Author.Tests.{eqb-true, eq-eqb, ltb-true, ltb-false}
 use Rattle.checksum.proofs.Below.{at}
-use Rattle.telegram.specs.Numbers.{Outcome, refused, done}
+use Rattle.telegram.specs.Numbers.{Outcome, refusedFor, done}
 use Rattle.telegram.specs.declared.Telegram.{Telegram}
 use Rattle.telegram.proofs.Outcomes.{never, done-one}
 use Rattle.table.specs.Casts.{addressOf}
@@ -27,7 +27,7 @@ use Rattle.answer.proofs.Answering.{replied, answer-done, dissect-answe
 
 -- A row whose command has an answer of as many bytes as its payload.
 alike : Outcome Row → Bool
-alike (refused n) = false
+alike (refusedFor d) = false
 alike (done r) = not (eqb (r .answer) 0) && eqb (r .payload) (r .answer)
 
 -- The table has one such row: one test at each number up to 6F.

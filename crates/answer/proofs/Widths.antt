@@ -7,7 +7,7 @@ use Prim.Native.Nat.{ℕ, _≤_}
 use lib.Dec.{eqb, lit≤}
 use lib.ListN.{length}
 use borrow.Author.Tests.{eq-eqb}
-use Rattle.telegram.specs.Numbers.{Outcome, refused, done}
+use Rattle.telegram.specs.Numbers.{Outcome, refusedFor, done}
 use Rattle.table.specs.Table.{rowOf, acknowledged, answerSizeOf}
 use Rattle.command.specs.Fields.{octets}
 use Rattle.answer.specs.Answers.{acknowledgedNumber, answerMessageOf, answerLayoutOf, answerPayloadOf}
@@ -20,7 +20,7 @@ use Rattle.command.proofs.Layouts.{Wide, as-wide, wide}
 
 -- The table has this many bytes for an answer.
 has : Outcome ℕ → ℕ → Bool
-has (refused n) k = false
+has (refusedFor d) k = false
 has (done x) k = eqb k x
 
 pub answer-wide : (n : ℕ) → n ≤ 127 → (p : List ℕ) → length p ≤ 8 → answerSizeOf n ≡ done (length p) → Wide (answerLayoutOf n) p

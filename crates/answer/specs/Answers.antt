@@ -5,7 +5,7 @@ use Prim.Native.Nat.{ℕ}
 use mathlib.Core.Bool.{Bool, cond, not, _||_}
 use mathlib.Core.List.{List, [], _∷_}
 use lib.Dec.{eqb, leb}
-use Rattle.telegram.specs.Numbers.{Outcome, refused, done, refuse, after, numberOf}
+use Rattle.telegram.specs.Numbers.{Outcome, refusedFor, done, refuse, after, reasonOf}
 use Rattle.telegram.specs.Telegram.{reading, payloadIn}
 use Rattle.telegram.specs.declared.Telegram.{Telegram}
 use Rattle.table.specs.Table.{rowOf}
@@ -58,10 +58,10 @@ pub record Reply : Type 0 where
 abbrev pub replyOf : Answered → Reply
 replyOf a = record { address = a .address .0; message = answerMessageOf (a .answer) }
 
--- The answer dissector's answer: the number of its refusal, or done with the reply.
+-- The answer dissector's answer: its refusal, or done with the reply.
 abbrev pub replyAs : AnswerDissection → Outcome Reply
 replyAs (Accepted a) = done (replyOf a)
-replyAs (Refused e) = refused (numberOf e)
+replyAs (Refused e) = refusedFor (reasonOf e)
 
 -- An answer's address is 001 to 3EF, for 02 and 03 also 000.
 abbrev pub answerAddress : ℕ → ℕ → Bool

@@ -2,16 +2,16 @@
 -- Assumes nothing.
 use Prim.Native.Nat.{ℕ}
 use mathlib.Core.List.{List, [], _∷_}
-use Rattle.telegram.specs.Numbers.{Outcome, refused, done}
+use Rattle.telegram.specs.Numbers.{Outcome, refusedFor, done}
 use Rattle.telegram.specs.Telegram.{reading, payloadIn}
 use Rattle.telegram.specs.declared.Telegram.{Telegram}
 use Rattle.table.specs.Casts.{castKind, castValue}
 use Rattle.command.specs.Commands.{Sent, dissecting}
 use Rattle.answer.specs.Answers.{Reply, dissectingAnswer}
 
--- An outcome as numbers: the number given back, and where that is 0 the values.
+-- An outcome as numbers: the number given back, with what a refusal carries, or where it is 0 the values.
 abbrev pub given : {A : Type 0} → (A → List ℕ) → Outcome A → List ℕ
-given values (refused n) = n ∷ []
+given values (refusedFor e) = e .number ∷ e .carries
 given values (done a) = 0 ∷ values a
 
 -- The telegram reader: address, command, payload.

@@ -7,13 +7,13 @@ use Prim.Native.Nat.{ℕ, _+_}
 use native.Mathlib.Omega.{arith}
 use lib.ListN.{length, take, length-append}
 use lib.Seq.{take-all, take-append-le, take-append-seam, drop-append-seam}
-use Rattle.telegram.specs.Numbers.{Outcome, refused, done}
+use Rattle.telegram.specs.Numbers.{Reason, bare, Outcome, refusedFor, done}
 use Rattle.telegram.specs.Telegram.{reading}
 use Rattle.telegram.specs.declared.Telegram.{Telegram}
 use Rattle.frame.specs.Frame.{Cutting, incomplete, broken, whole, cutting}
 use Rattle.frame.proofs.Cuts.{broken-stays, whole-stays, whole-last}
 use Rattle.frame.proofs.Fronts.{none-incomplete, accepted-whole}
-use Rattle.capture.specs.State.{stopped, carrying, resting}
+use Rattle.capture.specs.State.{stoppedFor, stopped, carrying, resting}
 use Rattle.capture.specs.Run.{wrapped, judged, grown, acceptedBy, run, telegramsIn}
 use Rattle.capture.specs.Calls.{joined}
 use Rattle.capture.specs.Uncut.{Position, Accounted, AcceptedByReader, AcceptedAreGiven}
@@ -25,9 +25,9 @@ abbrev Account : ℕ → List ℕ → Gives → Type 0
 Account p w x = Accounted p w (x .1) (x .0)
 
 -- A reading that is stopped by what its bytes w show: all are left over.
-stopped-account : (w : List ℕ) (p n : ℕ) → Position p → grown (cutting w) w p ≡ resting (stopped n) p
-    → Account p w (resting (stopped n) p, [])
-stopped-account w p n h e =
+stopped-account : (w : List ℕ) (p : ℕ) (d : Reason) → Position p → grown (cutting w) w p ≡ resting (stoppedFor d) p
+    → Account p w (resting (stoppedFor d) p, [])
+stopped-account w p d h e =
     let m : p ≡ wrapped (p + 0) = omega arith in
     record { accepted = tt; rest = w; bytes = refl; position = m; stands = e }
 
@@ -54,11 +54,11 @@ module _ (u l : List ℕ) (p k : ℕ) (h : Position p) (q : cutting u ≡ whole 
         position = i .position ∙ m;
         stands = i .stands;
       }
-  judged-account (refused m) e =
+  judged-account (refusedFor d) e =
       let x : cutting (u ++ l) ≡ whole k = whole-stays u l k q in
-      let y : reading (take k (u ++ l)) ≡ refused m = ap reading (take-append-le k u l (omega arith)) ∙ e in
-      subst (λ (z : Gives). Account p (u ++ l) z) (sym (stays (resting (stopped m) p) tt l))
-      (stopped-account (u ++ l) p m h (ap (λ (c : Cutting). grown c (u ++ l) p) x ∙ ap (λ (o : Outcome Telegram). judged o k p) y))
+      let y : reading (take k (u ++ l)) ≡ refusedFor d = ap reading (take-append-le k u l (omega arith)) ∙ e in
+      subst (λ (z : Gives). Account p (u ++ l) z) (sym (stays (resting (stoppedFor d) p) tt l))
+      (stopped-account (u ++ l) p d h (ap (λ (c : Cutting). grown c (u ++ l) p) x ∙ ap (λ (o : Outcome Telegram). judged o k p) y))
 
 shown-account : (l c : List ℕ) (b p : ℕ) → Position p → cutting c ≡ incomplete → Accounts l → (k : Cutting) → cutting (c ++ b ∷ []) ≡ k
     → Account p ((c ++ b ∷ []) ++ l) (shows k (c ++ b ∷ []) p l)
@@ -67,7 +67,7 @@ shown-account l c b p h e r (broken n) q =
     let w = (c ++ b ∷ []) ++ l in
     let x : cutting w ≡ broken n = broken-stays (c ++ b ∷ []) l n q in
     subst (λ (z : Gives). Account p w z) (sym (stays (resting (stopped n) p) tt l))
-    (stopped-account w p n h (ap (λ (k : Cutting). grown k w p) x))
+    (stopped-account w p (bare n) h (ap (λ (k : Cutting). grown k w p) x))
 shown-account l c b p h e r (whole k) q = judged-account (c ++ b ∷ []) l p k h q (whole-last c b k e q) r _ refl
 
 -- Every list of bytes is accounted for.

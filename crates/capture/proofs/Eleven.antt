@@ -3,26 +3,27 @@
 use mathlib.Core.Path.{_≡_, refl, sym, ap, _∙_}
 use mathlib.Core.Bool.{Bool, true, false}
 use Prim.Native.Nat.{ℕ}
+use mathlib.Core.Logic.{_≢_}
 use native.Mathlib.Omega.{arith}
-use Rattle.telegram.specs.Numbers.{refused}
+use Rattle.telegram.specs.Numbers.{Reason, refusedFor}
 use Rattle.telegram.proofs.Outcomes.{never}
-use Rattle.capture.specs.State.{Standing, going, ended, stopped, State, isLeft}
+use Rattle.capture.specs.State.{Standing, going, ended, stoppedFor, State, isLeft}
 use Rattle.capture.specs.Run.{run}
 use Rattle.capture.specs.Calls.{answerOf, nexting, closing, Scanned, scanning}
 use Rattle.capture.specs.Uncut.{Taken, LeavesTaken, TakenIsLeft, LeftIsTaken, Eleven, NeverEleven, ElevenExact, EndAndRefusalStay}
-use Rattle.capture.proofs.States.{none-stopped, next-not, end-not, scan-not, scan-left}
+use Rattle.capture.proofs.States.{none-stopped, stops-bare, next-not, end-not, scan-not, scan-left}
 use Rattle.capture.proofs.Taken.{leaves-taken}
 use Rattle.capture.proofs.Reached.{taken-is-left, left-is-taken}
 use Rattle.capture.proofs.Repeating.{end-and-refusal-stay}
 
 -- A state that is taken up was not stopped by 11.
-not-stopped : (s : State) → Taken s → s .standing ≡ stopped 11 → ⊥
-not-stopped s t e = omega (arith, none-stopped s (t .leaves) 11 e .2)
+not-stopped : (s : State) (d : Reason) → Taken s → s .standing ≡ stoppedFor d → d .number ≢ 11
+not-stopped s d t e z = omega (arith, stops-bare d (none-stopped s (t .leaves) d e .1) .2)
 
-answer-stopped : (k : Standing) (n : ℕ) → answerOf k ≡ refused n → k ≡ stopped n
+answer-stopped : (k : Standing) (n : Reason) → answerOf k ≡ refusedFor n → k ≡ stoppedFor n
 answer-stopped going n e = absurd (never (sym e))
 answer-stopped ended n e = absurd (never (sym e))
-answer-stopped (stopped m) n e = cc
+answer-stopped (stoppedFor d) n e = cc
 
 never-eleven : (s : State) → Taken s → NeverEleven s
 unfolding LeavesTaken EndAndRefusalStay
@@ -30,10 +31,10 @@ never-eleven s t =
     let l = leaves-taken s t in
     let q = end-and-refusal-stay s (t .leaves) in
     record {
-      next = λ c at y e. not-stopped (nexting c s at .state) (l .next c at y) (q .next c at 11 e);
-      closing = λ e. not-stopped (closing s .state) (l .closing) (answer-stopped _ 11 (sym (q .answer) ∙ e));
-      scanning = λ c y e.
-          not-stopped (run s c) (l .bytes c y) (answer-stopped _ 11 (ap (λ (x : Scanned). x .answer) (scan-left c s (t .leaves)) ∙ e));
+      next = λ c at d y e. not-stopped (nexting c s at .state) d (l .next c at y) (q .next c at d e);
+      closing = λ d e. not-stopped (closing s .state) d (l .closing) (answer-stopped _ d (sym (q .answer) ∙ e));
+      scanning = λ c d y e.
+          not-stopped (run s c) d (l .bytes c y) (answer-stopped _ d (ap (λ (x : Scanned). x .answer) (scan-left c s (t .leaves)) ∙ e));
     }
 
 -- A state whose test does not hold.

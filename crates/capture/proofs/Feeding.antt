@@ -6,11 +6,11 @@ use mathlib.Core.List.{List, [], _∷_, _++_, append-nil}
 use Prim.Native.Nat.{ℕ, _+_, _≤_}
 use native.Mathlib.Omega.{arith}
 use lib.ListN.{length, take, length-append}
-use Rattle.telegram.specs.Numbers.{Outcome, refused, done}
+use Rattle.telegram.specs.Numbers.{Reason, Outcome, refusedFor, done}
 use Rattle.telegram.specs.Telegram.{reading}
 use Rattle.telegram.specs.declared.Telegram.{Telegram}
 use Rattle.frame.specs.Frame.{Cutting, incomplete, broken, whole, cutting}
-use Rattle.capture.specs.State.{Standing, going, stopped, State, carrying, carriedIn, isLeft}
+use Rattle.capture.specs.State.{Standing, going, stoppedFor, State, carrying, carriedIn, isLeft}
 use Rattle.capture.specs.Run.{judged, grown, fed, fedBy, acceptedBy, completedBy, given, givenBy}
 use Rattle.capture.specs.Calls.{more, without, nextCut, nextBy}
 use Rattle.capture.specs.Uncut.{Final}
@@ -35,12 +35,12 @@ pub record Tells (ts : List (List ℕ)) (z : State) : Type 0 where
   pub none : z .standing ≡ going → (z .count ≡ 0 → ⊥) → ts ≡ []
   pub stop : Final (z .standing) → ts ≡ []
 
-not-going : {A : Type 0} {n : ℕ} → stopped n ≡ going → A
+not-going : {A : Type 0} {d : Reason} → stoppedFor d ≡ going → A
 not-going e = let z : _≡_ {A = ℕ} 0 1 = cc in absurd (omega arith)
 
 tells-judged : (o : Outcome Telegram) (c : List ℕ) (k p : ℕ) → Tells (acceptedBy o c) (judged o k p)
 tells-judged (done t) c k p = record { one = λ e z. refl; none = λ e f. absurd (f refl); stop = λ f. absurd f }
-tells-judged (refused n) c k p = record { one = λ e z. not-going e; none = λ e f. refl; stop = λ f. refl }
+tells-judged (refusedFor d) c k p = record { one = λ e z. not-going e; none = λ e f. refl; stop = λ f. refl }
 
 tells-grown : (k : Cutting) (w : List ℕ) (p : ℕ) → 1 ≤ length w → Tells (completedBy k w) (grown k w p)
 tells-grown incomplete w p h = record { one = λ e z. absurd (omega arith); none = λ e f. refl; stop = λ f. refl }

@@ -11,15 +11,15 @@ use borrow.Author.Tests.{ltb-true}
 use lib.Dec.{ltb}
 use lib.ListN.{length, length-append}
 use Rattle.checksum.specs.Checksum.{shiftBit, remainderByte, checksumOf}
-use Rattle.telegram.specs.Numbers.{done}
+use Rattle.telegram.specs.Numbers.{Reason, done}
 use Rattle.telegram.specs.Telegram.{framing, reading, telegramIn, Bytes}
 use Rattle.frame.specs.Frame.{Cutting, incomplete, cutting}
 use Rattle.frame.proofs.Fronts.{bytes-none, bytes-cons, bytes-append, bytes-take, none-incomplete}
-use Rattle.capture.specs.State.{Standing, going, ended, stopped, State, carrying, resting, carriedIn}
+use Rattle.capture.specs.State.{Standing, going, ended, stoppedFor, stopped, State, carrying, resting, carriedIn}
 use Rattle.capture.specs.Run.{wrapped, run, atEnd}
 use Rattle.capture.specs.Calls.{joined}
 use Rattle.capture.specs.Uncut.{Taken, Position, AllAccepted, AcceptedAreGiven, LeftBySome, TakenIsLeft, LeftIsTaken}
-use Rattle.capture.proofs.States.{both, carried-incomplete, none-ended, none-stopped, is-carrying, is-resting}
+use Rattle.capture.proofs.States.{both, carried-incomplete, none-ended, none-stopped, stops-bare, is-carrying, is-resting}
 use Rattle.capture.proofs.Runs.{Gives, shows, behind, uncut}
 use Rattle.capture.proofs.Accepting.{accepted-are-given}
 use Rattle.capture.proofs.Taken.{taken-fresh, taken-run, taken-end}
@@ -138,9 +138,11 @@ reached going s t h o =
     by-run s h (carriedIn s) (bytes-take (s .count) (s .bytes) (t .each))
     (carried (carriedIn s) (s .position) (carried-incomplete s (t .leaves) o) ∙ is-carrying s (t .long) (t .leaves) o)
 reached ended s t h o = by-end s h [] bytes-none (is-resting s (t .long) (t .leaves) o (none-ended s (t .leaves) o))
-reached (stopped n) s t h o =
-    let q = none-stopped s (t .leaves) n o in
-    stopped-by n s h (q .1) (q .2) (is-resting s (t .long) (t .leaves) o (q .0))
+reached (stoppedFor d) s t h o =
+    let q = none-stopped s (t .leaves) d o in
+    let b = stops-bare d (q .1) in
+    stopped-by (d .number) s h (b .1) (b .2)
+    (ap (λ (x : Reason). resting (stoppedFor x) (s .position)) (b .0) ∙ is-resting s (t .long) (t .leaves) o (q .0))
 
 -- Each state that is taken up is left by a reading ..
 pub taken-is-left : TakenIsLeft

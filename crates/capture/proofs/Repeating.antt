@@ -10,14 +10,14 @@ use native.Mathlib.Omega.{arith}
 use borrow.Author.Tests.{eq-eqb, ne-eqb, lt-ltb, le-ltb}
 use lib.Dec.{eqb, ltb}
 use lib.ListN.{length, take, drop, drop-of-length-le}
-use Rattle.telegram.specs.Numbers.{Outcome, refused, done}
+use Rattle.telegram.specs.Numbers.{Reason, bare, Outcome, refusedFor, done}
 use Rattle.telegram.specs.Telegram.{reading}
 use Rattle.telegram.specs.declared.Telegram.{Telegram}
 use Rattle.telegram.proofs.Outcomes.{never}
 use Rattle.frame.specs.Frame.{Cutting, incomplete, broken, whole, cutting}
 use Rattle.frame.proofs.Cuts.{fault}
 use Rattle.frame.proofs.Fronts.{whole-refused}
-use Rattle.capture.specs.State.{Standing, going, ended, stopped, State, carrying, resting, carriedIn}
+use Rattle.capture.specs.State.{Standing, going, ended, stoppedFor, stopped, State, carrying, resting, carriedIn}
 use Rattle.capture.specs.Run.{wrapped, judged, grown, fed, fedBy, run, endedBy}
 use Rattle.capture.specs.Calls.{Given, without, answerOf, nextJudged, nextCut, nextBy, Closed, closed, scanned}
 use Rattle.capture.specs.Uncut.{Taken, NoBytesNothing, Final, EndAndRefusalRepeat, EndAndRefusalStay, EndOfOpen, RefusalsOfBytes}
@@ -29,12 +29,12 @@ use Rattle.capture.proofs.Feeding.{next-none}
 repeat-next : (k : Standing) (l : List ℕ) (s : State) (at : ℕ) → Final k → nextBy k l s at ≡ without (answerOf k) at s
 repeat-next going l s at f = absurd f
 repeat-next ended l s at f = refl
-repeat-next (stopped n) l s at f = refl
+repeat-next (stoppedFor d) l s at f = refl
 
 repeat-end : (k : Standing) (s : State) → Final k → endedBy k s ≡ s
 repeat-end going s f = absurd f
 repeat-end ended s f = refl
-repeat-end (stopped n) s f = refl
+repeat-end (stoppedFor d) s f = refl
 
 pub end-and-refusal-repeat : EndAndRefusalRepeat
 unfolding EndAndRefusalRepeat
@@ -54,7 +54,7 @@ end-and-refusal-repeat s e f =
 none-by : (k : Standing) (s : State) (at : ℕ) → Taken s → s .standing ≡ k → nextBy k [] s at ≡ without (answerOf k) at s
 none-by going s at t o = sym (next-none s at (t .long) (t .leaves) o)
 none-by ended s at t o = refl
-none-by (stopped n) s at t o = refl
+none-by (stoppedFor d) s at t o = refl
 
 pub no-bytes-nothing : NoBytesNothing
 unfolding NoBytesNothing
@@ -62,23 +62,23 @@ no-bytes-nothing c s at t h =
     sym (next-by c s at (t .leaves) (s .standing) refl)
     ∙ ap (λ (l : List ℕ). nextBy (s .standing) l s at) (drop-of-length-le c h) ∙ none-by (s .standing) s at t refl
 
--- A refusal leaves the reading stopped by its number, and the end leaves it ended or stopped.
-abbrev Kept : ℕ → Given → Type 0
-Kept n g = g .answer ≡ refused n → g .state .standing ≡ stopped n
+-- A refusal leaves the reading stopped for its reason, and the end leaves it ended or stopped.
+abbrev Kept : Reason → Given → Type 0
+Kept d g = g .answer ≡ refusedFor d → g .state .standing ≡ stoppedFor d
 
-judged-kept : (o : Outcome Telegram) (c : List ℕ) (k : ℕ) (s : State) (at n : ℕ) → Kept n (nextJudged o c k s at)
+judged-kept : (o : Outcome Telegram) (c : List ℕ) (k : ℕ) (s : State) (at : ℕ) (n : Reason) → Kept n (nextJudged o c k s at)
 judged-kept (done t) c k s at n e = absurd (never (sym e))
-judged-kept (refused m) c k s at n e = cc
+judged-kept (refusedFor d) c k s at n e = cc
 
-cut-kept : (k : Cutting) (w : List ℕ) (m : ℕ) (s : State) (at n : ℕ) → Kept n (nextCut k w m s at)
+cut-kept : (k : Cutting) (w : List ℕ) (m : ℕ) (s : State) (at : ℕ) (n : Reason) → Kept n (nextCut k w m s at)
 cut-kept incomplete w m s at n e = absurd (never (sym e))
 cut-kept (broken r) w m s at n e = cc
 cut-kept (whole k) w m s at n e = judged-kept (reading (take k w)) (take k w) k s at n e
 
-next-kept : (k : Standing) (l : List ℕ) (s : State) (at n : ℕ) → s .standing ≡ k → Kept n (nextBy k l s at)
+next-kept : (k : Standing) (l : List ℕ) (s : State) (at : ℕ) (n : Reason) → s .standing ≡ k → Kept n (nextBy k l s at)
 next-kept going l s at n o e = cut-kept (cutting (carriedIn s ++ l)) (carriedIn s ++ l) (length l) s at n e
 next-kept ended l s at n o e = absurd (never (sym e))
-next-kept (stopped r) l s at n o e = cc
+next-kept (stoppedFor r) l s at n o e = cc
 
 left-final : (a b : Bool) → Final (cond a ended (cond b (stopped 1) (stopped 4)))
 left-final true b = tt
@@ -88,7 +88,7 @@ left-final false false = tt
 end-final : (k : Standing) (s : State) → s .standing ≡ k → Final (endedBy k s .standing)
 end-final going s o = left-final (eqb (s .count) 0) (ltb (s .count) 4)
 end-final ended s o = subst Final (sym o) tt
-end-final (stopped n) s o = subst Final (sym o) tt
+end-final (stoppedFor d) s o = subst Final (sym o) tt
 
 pub end-and-refusal-stay : EndAndRefusalStay
 unfolding EndAndRefusalStay
@@ -117,27 +117,27 @@ abbrev OfBytes : ℕ → Type 0
 OfBytes n = (n ≡ 2) ⊎ ((n ≡ 3) ⊎ (n ≡ 5))
 
 abbrev Fair : State → Type 0
-Fair s = (n : ℕ) → s .standing ≡ stopped n → OfBytes n
+Fair s = (d : Reason) → s .standing ≡ stoppedFor d → OfBytes (d .number)
 
 fair-going : (s : State) → s .standing ≡ going → Fair s
 fair-going s o n e = let z : _≡_ {A = ℕ} 0 1 = cc in absurd (omega arith)
 
-fair-stopped : (m p : ℕ) → OfBytes m → Fair (resting (stopped m) p)
-fair-stopped m p f n e = let q : m ≡ n = cc in subst OfBytes q f
+fair-stopped : (m : Reason) (p : ℕ) → OfBytes (m .number) → Fair (resting (stoppedFor m) p)
+fair-stopped m p f d e = let q : m ≡ d = cc in subst (λ (x : Reason). OfBytes (x .number)) q f
 
 fair-judged : (w : List ℕ) (k p : ℕ) → cutting w ≡ whole k → (o : Outcome Telegram) → reading (take k w) ≡ o → Fair (judged o k p)
 fair-judged w k p e (done t) q = fair-going (carrying [] (wrapped (p + k))) refl
-fair-judged w k p e (refused m) q = fair-stopped m p (inr (inr (whole-refused w k m e q)))
+fair-judged w k p e (refusedFor d) q = fair-stopped d p (inr (inr (ap (λ (x : Reason). x .number) (whole-refused w k d e q))))
 
 fair-grown : (k : Cutting) (w : List ℕ) (p : ℕ) → cutting w ≡ k → Fair (grown k w p)
 fair-grown incomplete w p e = fair-going (carrying w p) refl
-fair-grown (broken m) w p e = fair-stopped m p (⊎-elim (λ x. inl x) (λ x. inr (inl x)) (fault w m e))
+fair-grown (broken m) w p e = fair-stopped (bare m) p (⊎-elim (λ x. inl x) (λ x. inr (inl x)) (fault w m e))
 fair-grown (whole k) w p e = fair-judged w k p e (reading (take k w)) refl
 
 fair-fed : (k : Standing) (s : State) (b : ℕ) → Fair s → Fair (fedBy k s b)
 fair-fed going s b f = fair-grown (cutting (carriedIn s ++ b ∷ [])) (carriedIn s ++ b ∷ []) (s .position) refl
 fair-fed ended s b f = f
-fair-fed (stopped n) s b f = f
+fair-fed (stoppedFor d) s b f = f
 
 fair-run : (s : State) (l : List ℕ) → Fair s → Fair (run s l)
 fair-run s [] f = f

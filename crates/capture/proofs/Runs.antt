@@ -9,7 +9,7 @@ use lib.Seq.{take-at, drop-at, take-all}
 use Rattle.telegram.specs.Telegram.{reading}
 use Rattle.frame.specs.Frame.{Cutting, incomplete, broken, whole, cutting}
 use Rattle.frame.proofs.Cuts.{broken-stays, whole-stays, whole-last}
-use Rattle.capture.specs.State.{Standing, going, ended, stopped, State, carrying, resting}
+use Rattle.capture.specs.State.{Standing, going, ended, stoppedFor, stopped, State, carrying, resting}
 use Rattle.capture.specs.Run.{grown, judged, fed, fedBy, acceptedBy, completedBy, given, givenBy, run, telegramsIn}
 use Rattle.capture.specs.Uncut.{Final}
 use Rattle.capture.proofs.States.{carried-back}
@@ -34,12 +34,12 @@ gives s l = (run s l, telegramsIn s l)
 final-fed : (k : Standing) (s : State) (b : ℕ) → Final k → fedBy k s b ≡ s
 final-fed going s b o = absurd o
 final-fed ended s b o = refl
-final-fed (stopped n) s b o = refl
+final-fed (stoppedFor d) s b o = refl
 
 final-given : (k : Standing) (s : State) (b : ℕ) → Final k → givenBy k s b ≡ []
 final-given going s b o = absurd o
 final-given ended s b o = refl
-final-given (stopped n) s b o = refl
+final-given (stoppedFor d) s b o = refl
 
 pub stays : (s : State) → Final (s .standing) → (l : List ℕ) → gives s l ≡ (s, [])
 stays s o [] = refl

@@ -3,7 +3,7 @@
 -- unfold neither `isLeft` nor `nexting`, `closing`, `scanning`.
 -- Assumes nothing.
 use mathlib.Core.Path.{_≡_, refl, sym, ap, ap₂, _∙_}
-use mathlib.Core.Bool.{Bool, true, false, _&&_}
+use mathlib.Core.Bool.{Bool, true, false, _&&_, false≢true}
 use mathlib.Core.List.{List, [], _∷_, _++_}
 use Prim.Native.Nat.{ℕ, zero, suc, _-_, _≤_, _<_}
 use native.Mathlib.Omega.{arith}
@@ -11,11 +11,11 @@ use borrow.Author.Tests.{le-leb, lt-leb, leb-true, eqb-true}
 use lib.Dec.{eqb, leb}
 use lib.ListN.{length, take, drop, replicate, length-drop, take-append-drop}
 use lib.Seq.{length-take-le, take-append-seam, drop-append-seam}
-use Rattle.telegram.specs.Numbers.{refused}
+use Rattle.telegram.specs.Numbers.{Reason, bare, refused}
 use Rattle.telegram.specs.Telegram.{Bytes}
 use Rattle.frame.specs.Frame.{Cutting, incomplete, broken, whole, cutting}
 use Rattle.frame.proofs.Cuts.{incomplete-short}
-use Rattle.capture.specs.State.{Standing, going, ended, stopped, State, padded, carrying, resting, carriedIn, zeros, isIncomplete, leftBy, isLeft}
+use Rattle.capture.specs.State.{Standing, going, ended, stoppedFor, State, padded, carrying, resting, carriedIn, zeros, isIncomplete, stops, leftBy, isLeft}
 use Rattle.capture.specs.Run.{run, telegramsIn, endedBy}
 use Rattle.capture.specs.Calls.{without, nextBy, nexting, Closed, closed, closing, Scanned, scanned, scanning}
 
@@ -68,12 +68,20 @@ module _ (s : State) (e : isLeft s ≡ true) where
   pub none-ended : s .standing ≡ ended → s .count ≡ 0
   none-ended o = eqb-true (s .count) 0 (stands-as ended o)
 
-  -- .. and so does one that was stopped, by 1 to 5.
-  pub none-stopped : (n : ℕ) → s .standing ≡ stopped n → (s .count ≡ 0) × (1 ≤ n) × (n ≤ 5)
-  none-stopped n o =
-      let p = both (eqb (s .count) 0) _ (stands-as (stopped n) o) in
-      let q = both (leb 1 n) (leb n 5) (p .1) in
-      (eqb-true _ _ (p .0), leb-true _ _ (q .0), leb-true _ _ (q .1))
+  -- .. and so does one that was stopped, for a reason that stops a reading.
+  pub none-stopped : (d : Reason) → s .standing ≡ stoppedFor d → (s .count ≡ 0) × (stops d ≡ true)
+  none-stopped d o =
+      let p = both (eqb (s .count) 0) (stops d) (stands-as (stoppedFor d) o) in
+      (eqb-true _ _ (p .0), p .1)
+
+-- What stops a reading carries nothing, and has a number from 1 to 5.
+stops-list : (n : ℕ) (l : List ℕ) → stops (record { number = n; carries = l }) ≡ true
+    → (_≡_ {A = Reason} (bare n) (record { number = n; carries = l })) × (1 ≤ n) × (n ≤ 5)
+stops-list n [] e = let q = both (leb 1 n) (leb n 5) e in (refl, leb-true _ _ (q .0), leb-true _ _ (q .1))
+stops-list n (x ∷ l) e = absurd (false≢true e)
+
+pub stops-bare : (d : Reason) → stops d ≡ true → (bare (d .number) ≡ d) × (1 ≤ d .number) × (d .number ≤ 5)
+stops-bare d e = stops-list (d .number) (d .carries) e
 
 -- Bytes that are all zero.
 pub zeros-all : (l : List ℕ) → zeros l ≡ true → l ≡ replicate (length l) 0
@@ -112,7 +120,7 @@ module _ (s : State) (n : length (s .bytes) ≡ 12) (e : isLeft s ≡ true) wher
   pub is-resting : {k : Standing} → s .standing ≡ k → s .count ≡ 0 → resting k (s .position) ≡ s
   is-resting o z = same-state s (sym o) (sym z) (sym (ap (λ (i : ℕ). padded (take i (s .bytes))) z) ∙ carried-padded)
 
--- Such states: one that carries an unfinished telegram or nothing, one that has ended, one that was stopped by 1 to 5.
+-- Such states: one that carries an unfinished telegram or nothing, one that has ended, one that was stopped.
 pub left-carrying : (c : List ℕ) (p : ℕ) → Bytes c → cutting c ≡ incomplete → isLeft (carrying c p) ≡ true
 left-carrying c p y e =
     let r : List ℕ = replicate (12 - length c) 0 in
@@ -124,9 +132,9 @@ pub left-ended : (p : ℕ) → isLeft (resting ended p) ≡ true
 unfolding isLeft
 left-ended p = refl
 
-pub left-stopped : (n p : ℕ) → 1 ≤ n → n ≤ 5 → isLeft (resting (stopped n) p) ≡ true
+pub left-stopped : (d : Reason) (p : ℕ) → stops d ≡ true → isLeft (resting (stoppedFor d) p) ≡ true
 unfolding isLeft
-left-stopped n p a b = simp (le-leb _ _ a, le-leb _ _ b)
+left-stopped d p e = e
 
 -- The answers: 11 for a state that no reading leaves, else by how the reading stands.
 module _ (c : List ℕ) (s : State) (at : ℕ) where

@@ -1,6 +1,6 @@
 -- A reading leaves only states that calls take up again.
 -- Assumes nothing.
-use mathlib.Core.Path.{_≡_, refl, subst}
+use mathlib.Core.Path.{_≡_, refl, ap, subst}
 use mathlib.Core.Bool.{Bool, true, false, cond}
 use mathlib.Core.List.{List, [], _∷_, _++_}
 use mathlib.Core.Logic.{⊎-elim}
@@ -8,13 +8,13 @@ use Prim.Native.Nat.{ℕ, suc, _+_, _-_, _≤_, _<_}
 use native.Mathlib.Omega.{arith}
 use lib.Dec.{eqb, ltb}
 use lib.ListN.{length, take, drop, replicate, length-append, length-replicate}
-use Rattle.telegram.specs.Numbers.{Outcome, refused, done}
+use Rattle.telegram.specs.Numbers.{Reason, bare, Outcome, refusedFor, done}
 use Rattle.telegram.specs.Telegram.{reading, Bytes}
 use Rattle.telegram.specs.declared.Telegram.{Telegram}
 use Rattle.frame.specs.Frame.{Cutting, incomplete, broken, whole, cutting}
 use Rattle.frame.proofs.Cuts.{fault, incomplete-short}
 use Rattle.frame.proofs.Fronts.{bytes-none, bytes-cons, bytes-append, bytes-take, bytes-drop, bytes-zeros, none-incomplete, whole-refused}
-use Rattle.capture.specs.State.{Standing, going, ended, stopped, State, carrying, resting, carriedIn, isLeft}
+use Rattle.capture.specs.State.{Standing, going, ended, stoppedFor, stopped, State, carrying, resting, carriedIn, stops, isLeft}
 use Rattle.capture.specs.Run.{wrapped, judged, grown, fed, fedBy, run, endedBy, atEnd}
 use Rattle.capture.specs.Calls.{Given, nextBy, nexting, Closed, closing, Scanned, scanning}
 use Rattle.capture.specs.Uncut.{Taken, LeavesTaken}
@@ -39,20 +39,20 @@ taken-fresh p = taken-carrying [] p bytes-none none-incomplete
 taken-ended : (p : ℕ) → Taken (resting ended p)
 taken-ended p = taken-resting ended p (left-ended p)
 
-taken-stopped : (n p : ℕ) → 1 ≤ n → n ≤ 5 → Taken (resting (stopped n) p)
-taken-stopped n p a b = taken-resting (stopped n) p (left-stopped n p a b)
+taken-stopped : (d : Reason) (p : ℕ) → stops d ≡ true → Taken (resting (stoppedFor d) p)
+taken-stopped d p e = taken-resting (stoppedFor d) p (left-stopped d p e)
 
 -- What bytes make of them.
 taken-judged : (w : List ℕ) (k p : ℕ) → cutting w ≡ whole k → (o : Outcome Telegram) → reading (take k w) ≡ o → Taken (judged o k p)
 taken-judged w k p e (done t) q = taken-fresh (wrapped (p + k))
-taken-judged w k p e (refused n) q =
-    let m = whole-refused w k n e q in
-    taken-stopped n p (omega arith) (omega arith)
+taken-judged w k p e (refusedFor d) q =
+    taken-stopped d p (ap stops (whole-refused w k d e q))
 
 pub taken-grown : (k : Cutting) (w : List ℕ) (p : ℕ) → Bytes w → cutting w ≡ k → Taken (grown k w p)
 taken-grown incomplete w p y e = taken-carrying w p y e
 taken-grown (broken n) w p y e =
-    ⊎-elim (λ m. taken-stopped n p (omega arith) (omega arith)) (λ m. taken-stopped n p (omega arith) (omega arith)) (fault w n e)
+    taken-stopped (bare n) p
+    (⊎-elim (λ m. ap (λ (x : ℕ). stops (bare x)) m) (λ m. ap (λ (x : ℕ). stops (bare x)) m) (fault w n e))
 taken-grown (whole k) w p y e = taken-judged w k p e (reading (take k w)) refl
 
 -- The bytes that are carried, with more behind them.
@@ -62,7 +62,7 @@ with-more s l t y = bytes-append (carriedIn s) l (bytes-take (s .count) (s .byte
 fed-taken : (k : Standing) (s : State) (b : ℕ) → Taken s → b < 256 → Taken (fedBy k s b)
 fed-taken going s b t h = taken-grown _ (carriedIn s ++ b ∷ []) (s .position) (with-more s (b ∷ []) t (bytes-cons b [] h bytes-none)) refl
 fed-taken ended s b t h = t
-fed-taken (stopped n) s b t h = t
+fed-taken (stoppedFor d) s b t h = t
 
 pub taken-fed : (s : State) (b : ℕ) → Taken s → b < 256 → Taken (fed s b)
 taken-fed s b t h = fed-taken (s .standing) s b t h
@@ -74,13 +74,13 @@ taken-run s (b ∷ l) t y = taken-run (fed s b) l (taken-fed s b t (y 0)) (λ k.
 -- What the end makes of them.
 left-over : (a b : Bool) (p : ℕ) → Taken (resting (cond a ended (cond b (stopped 1) (stopped 4))) p)
 left-over true b p = taken-ended p
-left-over false true p = taken-stopped 1 p (omega arith) (omega arith)
-left-over false false p = taken-stopped 4 p (omega arith) (omega arith)
+left-over false true p = taken-stopped (bare 1) p refl
+left-over false false p = taken-stopped (bare 4) p refl
 
 end-taken : (k : Standing) (s : State) → Taken s → Taken (endedBy k s)
 end-taken going s t = left-over (eqb (s .count) 0) (ltb (s .count) 4) (s .position)
 end-taken ended s t = t
-end-taken (stopped n) s t = t
+end-taken (stoppedFor d) s t = t
 
 pub taken-end : (s : State) → Taken s → Taken (atEnd s)
 taken-end s t = end-taken (s .standing) s t
@@ -91,7 +91,7 @@ next-taken going s l at t y =
     let w = carriedIn s ++ l in
     rw (next-state (cutting w) w (length l) s at) (taken-grown (cutting w) w (s .position) (with-more s l t y) refl)
 next-taken ended s l at t y = t
-next-taken (stopped n) s l at t y = t
+next-taken (stoppedFor d) s l at t y = t
 
 pub taken-next : (c : List ℕ) (s : State) (at : ℕ) → Taken s → Bytes c → Taken (nexting c s at .state)
 taken-next c s at t y =

@@ -6,13 +6,13 @@ use Prim.Native.Nat.{ℕ, _+_, _-_, _≤_, _<_}
 use native.Mathlib.Omega.{arith}
 use lib.ListN.{length, take, drop, length-append, length-drop}
 use lib.Seq.{take-at, drop-append-add, drop-drop, drop-length}
-use Rattle.telegram.specs.Numbers.{Outcome, refused, done}
+use Rattle.telegram.specs.Numbers.{Reason, bare, Outcome, refusedFor, done}
 use Rattle.telegram.specs.Telegram.{reading}
 use Rattle.telegram.specs.declared.Telegram.{Telegram}
 use Rattle.telegram.proofs.Reading.{accepted-count}
 use Rattle.frame.specs.Frame.{Cutting, incomplete, broken, whole, cutting}
 use Rattle.frame.proofs.Cuts.{complete, whole-past}
-use Rattle.capture.specs.State.{Standing, going, ended, stopped, State, carrying, resting, carriedIn}
+use Rattle.capture.specs.State.{Standing, going, ended, stoppedFor, stopped, State, carrying, resting, carriedIn}
 use Rattle.capture.specs.Run.{wrapped, judged, grown, acceptedBy, completedBy, run, telegramsIn}
 use Rattle.capture.specs.Calls.{Given, nextJudged, nextCut, nextBy, nexting, told}
 use Rattle.capture.specs.Uncut.{Taken, OneCall, ByTelegrams, Final}
@@ -22,7 +22,7 @@ use Rattle.capture.proofs.Runs.{Gives, gives, stays, behind, uncut}
 -- A call by what the bytes show: the state that it leaves ..
 judged-state : (o : Outcome Telegram) (c : List ℕ) (k : ℕ) (s : State) (at : ℕ) → nextJudged o c k s at .state ≡ judged o k (s .position)
 judged-state (done t) c k s at = refl
-judged-state (refused n) c k s at = refl
+judged-state (refusedFor d) c k s at = refl
 
 pub next-state : (k : Cutting) (w : List ℕ) (m : ℕ) (s : State) (at : ℕ) → nextCut k w m s at .state ≡ grown k w (s .position)
 next-state incomplete w m s at = refl
@@ -33,7 +33,7 @@ next-state (whole k) w m s at = judged-state (reading (take k w)) (take k w) k s
 judged-told : (o : Outcome Telegram) (c : List ℕ) (k : ℕ) (s : State) (at : ℕ) → reading c ≡ o
     → told (nextJudged o c k s at) ≡ acceptedBy o c
 judged-told (done t) c k s at e = ap (λ (x : List ℕ). x ∷ []) (take-at c _ (4 + t .size) (accepted-count c t e))
-judged-told (refused n) c k s at e = refl
+judged-told (refusedFor d) c k s at e = refl
 
 pub next-told : (k : Cutting) (w : List ℕ) (m : ℕ) (s : State) (at : ℕ) → told (nextCut k w m s at) ≡ completedBy k w
 next-told incomplete w m s at = refl
@@ -62,26 +62,26 @@ module _ (c d : List ℕ) (s : State) (at : ℕ) (n : length d ≡ s .count) (e 
       let m : length d + (k - s .count) ≡ k = omega arith in
       sym (drop-drop (k - s .count) at c) ∙ sym (drop-append-add d l (k - s .count)) ∙ ap (λ (i : ℕ). drop i (d ++ l)) m
 
-  stopped-same : (r p : ℕ) (x y : List ℕ) → gives (resting (stopped r) p) x ≡ gives (resting (stopped r) p) y
-  stopped-same r p x y = stays (resting (stopped r) p) tt x ∙ sym (stays (resting (stopped r) p) tt y)
+  stopped-same : (r : Reason) (p : ℕ) (x y : List ℕ) → gives (resting (stoppedFor r) p) x ≡ gives (resting (stoppedFor r) p) y
+  stopped-same r p x y = stays (resting (stoppedFor r) p) tt x ∙ sym (stays (resting (stoppedFor r) p) tt y)
 
   judged-rest : (o : Outcome Telegram) (t : List ℕ) (k : ℕ) → length d ≤ k
       → gives (nextJudged o t k s at .state) (drop (nextJudged o t k s at .at) c) ≡ gives (judged o k (s .position)) (drop k (d ++ l))
   judged-rest (done x) t k h = ap (λ (z : List ℕ). gives (carrying [] (wrapped (s .position + k))) z) (rest-taken k h)
-  judged-rest (refused r) t k h = stopped-same r (s .position) l (drop k (d ++ l))
+  judged-rest (refusedFor r) t k h = stopped-same r (s .position) l (drop k (d ++ l))
 
   next-rest : (k : Cutting) → cutting (d ++ l) ≡ k
       → gives (nextCut k (d ++ l) (length l) s at .state) (drop (nextCut k (d ++ l) (length l) s at .at) c)
       ≡ gives (grown k (d ++ l) (s .position)) (behind k (d ++ l))
   next-rest incomplete q = ap (λ (z : List ℕ). gives (carrying (d ++ l) (s .position)) z) all-taken
-  next-rest (broken r) q = stopped-same r (s .position) l []
+  next-rest (broken r) q = stopped-same (bare r) (s .position) l []
   next-rest (whole k) q = judged-rest (reading (take k (d ++ l))) (take k (d ++ l)) k (omega (arith, whole-past d l k e q))
 
   -- Where it gives no telegram, nothing more is given.
   judged-quiet : (o : Outcome Telegram) (t : List ℕ) (k : ℕ) → told (nextJudged o t k s at) ≡ []
       → gives (nextJudged o t k s at .state) (drop (nextJudged o t k s at .at) c) ≡ (nextJudged o t k s at .state, [])
   judged-quiet (done x) t k g = cons-none g
-  judged-quiet (refused r) t k g = stays (resting (stopped r) (s .position)) tt l
+  judged-quiet (refusedFor r) t k g = stays (resting (stoppedFor r) (s .position)) tt l
 
   next-quiet : (k : Cutting) → told (nextCut k (d ++ l) (length l) s at) ≡ []
       → gives (nextCut k (d ++ l) (length l) s at .state) (drop (nextCut k (d ++ l) (length l) s at .at) c)
@@ -96,7 +96,7 @@ module _ (c d : List ℕ) (s : State) (at : ℕ) (n : length d ≡ s .count) (e 
   judged-ahead (done u) t k a b g =
       let m : length (d ++ l) ≡ length d + (length c - at) = simp (length-append, length-drop) refl in
       record { on = omega arith; within = omega arith; one = cc }
-  judged-ahead (refused r) t k a b g = cons-none (sym g)
+  judged-ahead (refusedFor r) t k a b g = cons-none (sym g)
 
   next-ahead : (k : Cutting) {x : List ℕ} {y : List (List ℕ)} → cutting (d ++ l) ≡ k → told (nextCut k (d ++ l) (length l) s at) ≡ x ∷ y
       → Ahead c at y (nextCut k (d ++ l) (length l) s at)
@@ -125,19 +125,19 @@ module _ (c : List ℕ) (s : State) (at : ℕ) (t : Taken s) where
       ∙ ap₂ (λ (ts : List (List ℕ)) (x : Gives). (x .0, ts ++ x .1)) (sym (next-told (cutting w) w (length (drop at c)) s at))
       (sym (next-rest c carried s at n i (cutting w) refl))
   follows ended o = refl
-  follows (stopped r) o = refl
+  follows (stoppedFor r) o = refl
 
   quiet : (k : Standing) → s .standing ≡ k → told (by k) ≡ [] → gives (by k .state) (drop (by k .at) c) ≡ (by k .state, [])
   quiet going o g =
       next-quiet c carried s at (carried-count s (t .long) (t .leaves)) (carried-incomplete s (t .leaves) o) (cutting w) g
   quiet ended o g = stays s (subst Final (sym o) tt) (drop at c)
-  quiet (stopped r) o g = stays s (subst Final (sym o) tt) (drop at c)
+  quiet (stoppedFor r) o g = stays s (subst Final (sym o) tt) (drop at c)
 
   ahead-by : (k : Standing) {x : List ℕ} {y : List (List ℕ)} → s .standing ≡ k → told (by k) ≡ x ∷ y → Ahead c at y (by k)
   ahead-by going o g =
       next-ahead c carried s at (carried-count s (t .long) (t .leaves)) (carried-incomplete s (t .leaves) o) (cutting w) refl g
   ahead-by ended o g = cons-none (sym g)
-  ahead-by (stopped r) o g = cons-none (sym g)
+  ahead-by (stoppedFor r) o g = cons-none (sym g)
 
   -- A call that gives a telegram goes on in the chunk.
   pub next-ahead-of : {x : List ℕ} {y : List (List ℕ)} → told (nexting c s at) ≡ x ∷ y → Ahead c at y (nexting c s at)

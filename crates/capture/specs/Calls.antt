@@ -5,7 +5,7 @@ use Prim.Native.Nat.{ℕ, _+_, _-_}
 use mathlib.Core.Bool.{cond}
 use mathlib.Core.List.{List, [], _∷_, _++_}
 use lib.ListN.{length, take, drop}
-use Rattle.telegram.specs.Numbers.{Outcome, refused, done, numberOf}
+use Rattle.telegram.specs.Numbers.{Outcome, refusedFor, refused, done, reasonOf}
 use Rattle.telegram.specs.Telegram.{reading}
 use Rattle.telegram.specs.declared.Telegram.{Telegram as Fields}
 use Rattle.frame.specs.Frame.{Cutting, incomplete, broken, whole, cutting}
@@ -14,7 +14,7 @@ use Rattle.capture.specs.declared.Step.the-variants.{Telegram, More, End
 use Rattle.capture.specs.declared.Next.{Next}
 use Rattle.capture.specs.declared.Closing.{Closing}
 use Rattle.capture.specs.declared.Scan.{Scan}
-use Rattle.capture.specs.State.{Standing, going, ended, stopped, State, stateOf, padded, carrying, resting, carriedIn, isLeft}
+use Rattle.capture.specs.State.{Standing, going, ended, stoppedFor, stopped, State, stateOf, padded, carrying, resting, carriedIn, isLeft}
 use Rattle.capture.specs.Run.{wrapped, run, telegramsIn, atEnd}
 
 -- What a call gives that refuses nothing: a telegram with its fields, that more bytes are needed, or that the run is done.
@@ -28,7 +28,7 @@ abbrev pub stepAs : Step → Outcome Reply
 stepAs (Telegram t) = done (telegram t)
 stepAs More = done more
 stepAs Ended = done over
-stepAs (Refused e) = refused (numberOf e)
+stepAs (Refused e) = refusedFor (reasonOf e)
 
 -- What a call for the next telegram gives and leaves: the telegram's bytes with zeros behind them (all zeros where there is none), the
 -- index in the chunk from which the next call reads on, and the state.
@@ -49,13 +49,13 @@ without o at s = record { answer = o; bytes = padded []; at = at; state = s }
 abbrev pub answerOf : Standing → Outcome Reply
 answerOf going = done more
 answerOf ended = done over
-answerOf (stopped n) = refused n
+answerOf (stoppedFor e) = refusedFor e
 
 -- A whole telegram of k bytes, c, of which the state carried the first: given where the telegram reader accepts it. A refusal leaves the
 -- index where it was.
 abbrev pub nextJudged : Outcome Fields → List ℕ → ℕ → State → ℕ → Given
 nextJudged (done t) c k s at = record { answer = done (telegram t); bytes = padded c; at = at + (k - s .count); state = carrying [] (wrapped (s .position + k)) }
-nextJudged (refused n) c k s at = without (refused n) at (resting (stopped n) (s .position))
+nextJudged (refusedFor e) c k s at = without (refusedFor e) at (resting (stoppedFor e) (s .position))
 
 -- By what the bytes c show, which are those carried and then the last m of the chunk, from the index at on.
 abbrev pub nextCut : Cutting → List ℕ → ℕ → State → ℕ → Given
@@ -67,7 +67,7 @@ nextCut (whole k) c m s at = nextJudged (reading (take k c)) (take k c) k s at
 abbrev pub nextBy : Standing → List ℕ → State → ℕ → Given
 nextBy going l s at = nextCut (cutting (carriedIn s ++ l)) (carriedIn s ++ l) (length l) s at
 nextBy ended l s at = without (answerOf ended) at s
-nextBy (stopped n) l s at = without (answerOf (stopped n)) at s
+nextBy (stoppedFor e) l s at = without (answerOf (stoppedFor e)) at s
 
 -- The next telegram of a chunk, from the index at on. A state that no reading leaves gives 11 and stays.
 unfoldable pub nexting : List ℕ → State → ℕ → Given
@@ -112,7 +112,7 @@ abbrev pub toldBy : Outcome Reply → List ℕ → List (List ℕ)
 toldBy (done (telegram t)) c = take (4 + t .size) c ∷ []
 toldBy (done more) c = []
 toldBy (done over) c = []
-toldBy (refused n) c = []
+toldBy (refusedFor e) c = []
 
 abbrev pub told : Given → List (List ℕ)
 told g = toldBy (g .answer) (g .bytes)

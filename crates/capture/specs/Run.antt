@@ -5,11 +5,11 @@ use mathlib.Core.Bool.{cond}
 use mathlib.Core.List.{List, [], _∷_, _++_}
 use lib.Dec.{eqb, ltb}
 use lib.ListN.{take}
-use Rattle.telegram.specs.Numbers.{Outcome, refused, done}
+use Rattle.telegram.specs.Numbers.{Outcome, refusedFor, done}
 use Rattle.telegram.specs.Telegram.{reading}
 use Rattle.telegram.specs.declared.Telegram.{Telegram}
 use Rattle.frame.specs.Frame.{Cutting, incomplete, broken, whole, cutting}
-use Rattle.capture.specs.State.{Standing, going, ended, stopped, State, carrying, resting, carriedIn}
+use Rattle.capture.specs.State.{Standing, going, ended, stoppedFor, stopped, State, carrying, resting, carriedIn}
 
 -- Positions are counted modulo 2^64.
 abbrev pub wrapped : ℕ → ℕ
@@ -19,7 +19,7 @@ wrapped p = p % 18446744073709551616
 -- checksum), reading stops at its first byte.
 abbrev pub judged : Outcome Telegram → ℕ → ℕ → State
 judged (done t) k p = carrying [] (wrapped (p + k))
-judged (refused n) k p = resting (stopped n) p
+judged (refusedFor e) k p = resting (stoppedFor e) p
 
 -- What the bytes c from a telegram's first on, which is at position p, make of the reading: an unfinished telegram is carried, a refusal
 -- stops it.
@@ -32,7 +32,7 @@ grown (whole k) c p = judged (reading (take k c)) k p
 abbrev pub fedBy : Standing → State → ℕ → State
 fedBy going s b = grown (cutting (carriedIn s ++ b ∷ [])) (carriedIn s ++ b ∷ []) (s .position)
 fedBy ended s b = s
-fedBy (stopped n) s b = s
+fedBy (stoppedFor e) s b = s
 
 abbrev pub fed : State → ℕ → State
 fed s b = fedBy (s .standing) s b
@@ -40,7 +40,7 @@ fed s b = fedBy (s .standing) s b
 -- The telegram that these bytes are, where the telegram reader accepts it.
 abbrev pub acceptedBy : Outcome Telegram → List ℕ → List (List ℕ)
 acceptedBy (done t) c = c ∷ []
-acceptedBy (refused n) c = []
+acceptedBy (refusedFor e) c = []
 
 -- The telegram that the bytes c from its first on complete, if they do.
 abbrev pub completedBy : Cutting → List ℕ → List (List ℕ)
@@ -52,7 +52,7 @@ completedBy (whole k) c = acceptedBy (reading (take k c)) (take k c)
 abbrev pub givenBy : Standing → State → ℕ → List (List ℕ)
 givenBy going s b = completedBy (cutting (carriedIn s ++ b ∷ [])) (carriedIn s ++ b ∷ [])
 givenBy ended s b = []
-givenBy (stopped n) s b = []
+givenBy (stoppedFor e) s b = []
 
 abbrev pub given : State → ℕ → List (List ℕ)
 given s b = givenBy (s .standing) s b
@@ -75,7 +75,7 @@ leftOver n = cond (eqb n 0) ended (cond (ltb n 4) (stopped 1) (stopped 4))
 abbrev pub endedBy : Standing → State → State
 endedBy going s = resting (leftOver (s .count)) (s .position)
 endedBy ended s = s
-endedBy (stopped n) s = s
+endedBy (stoppedFor e) s = s
 
 abbrev pub atEnd : State → State
 atEnd s = endedBy (s .standing) s

@@ -5,23 +5,27 @@ use mathlib.Core.Bool.{Bool, true, false, _&&_}
 use mathlib.Core.List.{List, [], _∷_, _++_}
 use lib.Dec.{eqb, leb}
 use lib.ListN.{length, take, drop, replicate}
-use Rattle.telegram.specs.Numbers.{numberOf}
+use Rattle.telegram.specs.Numbers.{Reason, bare, reasonOf}
 use Rattle.frame.specs.Frame.{Cutting, incomplete, broken, whole, cutting}
 use Rattle.capture.specs.declared.Phase.{Phase}
 use Rattle.capture.specs.declared.Phase.the-variants.{Open, Ended, Stopped}
 use Rattle.capture.specs.declared.Reading.{Reading}
 
--- Whether a reading goes on: it goes on, the run has ended, or it was stopped by a refusal with this number.
+-- Whether a reading goes on: it goes on, the run has ended, or it was stopped by a refusal for this reason.
 pub data Standing : Type 0 where
   going : Standing
   ended : Standing
-  stopped : ℕ → Standing
+  stoppedFor : Reason → Standing
+
+-- Stopped by a refusal that is its number alone.
+abbrev pub stopped : ℕ → Standing
+stopped n = stoppedFor (bare n)
 
 -- The code's phase in these terms.
 abbrev pub standingOf : Phase → Standing
 standingOf Open = going
 standingOf Ended = ended
-standingOf (Stopped e) = stopped (numberOf e)
+standingOf (Stopped e) = stoppedFor (reasonOf e)
 
 -- What is remembered: the first `count` of twelve bytes are those of an unfinished telegram; `position` is that of the first byte which
 -- belongs to no telegram given so far, so of a refused telegram's first byte.
@@ -62,11 +66,20 @@ isIncomplete incomplete = true
 isIncomplete (broken n) = false
 isIncomplete (whole k) = false
 
--- By how a reading stands: an open one carries an unfinished telegram or nothing, one that ended or was stopped by 1 to 5 carries nothing.
+-- No values.
+abbrev pub nothing : List ℕ → Bool
+nothing [] = true
+nothing (x ∷ l) = false
+
+-- What stops a reading: 1 to 5, which carry nothing.
+abbrev pub stops : Reason → Bool
+stops e = nothing (e .carries) && (leb 1 (e .number) && leb (e .number) 5)
+
+-- By how a reading stands: an open one carries an unfinished telegram or nothing, one that ended or was stopped carries nothing.
 abbrev pub leftBy : Standing → State → Bool
 leftBy going s = isIncomplete (cutting (carriedIn s))
 leftBy ended s = eqb (s .count) 0
-leftBy (stopped n) s = eqb (s .count) 0 && (leb 1 n && leb n 5)
+leftBy (stoppedFor e) s = eqb (s .count) 0 && stops e
 
 -- Whether some reading leaves this state: up to 11 bytes are carried, zeros stand behind them, and they are as above. Every position can be
 -- reached, so it is not looked at.

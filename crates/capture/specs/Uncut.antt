@@ -5,13 +5,13 @@ use Prim.Native.Nat.{ℕ, _+_, _≤_, _<_}
 use mathlib.Core.Path.{_≡_}
 use mathlib.Core.Bool.{true}
 use mathlib.Core.List.{List, [], _∷_, _++_}
-use mathlib.Core.Logic.{_⊎_}
+use mathlib.Core.Logic.{_⊎_, _≢_}
 use lib.ListN.{length, drop}
-use Rattle.telegram.specs.Numbers.{refused, done}
+use Rattle.telegram.specs.Numbers.{Reason, refusedFor, refused, done}
 use Rattle.telegram.specs.Telegram.{reading, Bytes}
 use Rattle.telegram.specs.declared.Telegram.{Telegram}
 use Rattle.frame.specs.Frame.{cutting}
-use Rattle.capture.specs.State.{Standing, going, ended, stopped, State, carrying, resting, carriedIn, isLeft}
+use Rattle.capture.specs.State.{Standing, going, ended, stoppedFor, stopped, State, carrying, resting, carriedIn, isLeft}
 use Rattle.capture.specs.Run.{wrapped, grown, run, telegramsIn, atEnd}
 use Rattle.capture.specs.Calls.{Given, without, answerOf, nexting, closed, closing, scanned, scanning, told, Calls, Chunks, joined}
 
@@ -104,7 +104,7 @@ AllAccepted (t ∷ ts) = ((x : Telegram) × (reading t ≡ done x)) × AllAccept
 abbrev pub LeftOver : Standing → State → List ℕ → Type 0
 LeftOver going s rest = rest ≡ carriedIn s
 LeftOver ended s rest = ⊥
-LeftOver (stopped n) s rest = grown (cutting rest) rest (s .position) ≡ s
+LeftOver (stoppedFor e) s rest = grown (cutting rest) rest (s .position) ≡ s
 
 -- The telegrams ts and the state s of a run l whose first byte is at position p: the telegram reader accepts every telegram, joined they
 -- are the run's bytes up to what is left over, and the position is that of the first byte which is left over.
@@ -144,16 +144,16 @@ EndOfOpen = (s : State) → isLeft s ≡ true → s .standing ≡ going → Ends
 -- 1 and 4 come only from the end: bytes are refused with 2, 3 or 5.
 unfoldable pub RefusalsOfBytes : Type 0
 RefusalsOfBytes =
-    (s : State) (l : List ℕ) (n : ℕ)
+    (s : State) (l : List ℕ) (e : Reason)
     → s .standing ≡ going
-    → run s l .standing ≡ stopped n
-    → (n ≡ 2) ⊎ ((n ≡ 3) ⊎ (n ≡ 5))
+    → run s l .standing ≡ stoppedFor e
+    → (e .number ≡ 2) ⊎ ((e .number ≡ 3) ⊎ (e .number ≡ 5))
 
 -- A reading that has ended, or was stopped.
 abbrev pub Final : Standing → Type 0
 Final going = ⊥
 Final ended = Unit {0}
-Final (stopped n) = Unit {0}
+Final (stoppedFor e) = Unit {0}
 
 -- From this state on every call, for a chunk or for the end, gives the same answer, and nothing changes.
 pub record Repeats (s : State) : Type 0 where
@@ -166,9 +166,9 @@ pub record Repeats (s : State) : Type 0 where
 unfoldable pub EndAndRefusalRepeat : Type 0
 EndAndRefusalRepeat = (s : State) → isLeft s ≡ true → Final (s .standing) → Repeats s
 
--- A call that refuses leaves the reading stopped by that number, and the end leaves it ended or stopped, with the answer that it gave.
+-- A call that refuses leaves the reading stopped for that reason, and the end leaves it ended or stopped, with the answer that it gave.
 pub record Stays (s : State) : Type 0 where
-  pub next : (c : List ℕ) (at n : ℕ) → nexting c s at .answer ≡ refused n → nexting c s at .state .standing ≡ stopped n
+  pub next : (c : List ℕ) (at : ℕ) (e : Reason) → nexting c s at .answer ≡ refusedFor e → nexting c s at .state .standing ≡ stoppedFor e
   pub over : Final (closing s .state .standing)
   pub answer : closing s .answer ≡ answerOf (closing s .state .standing)
 
@@ -208,9 +208,9 @@ pub record Eleven (s : State) : Type 0 where
 
 -- No call refuses the state with 11.
 pub record NeverEleven (s : State) : Type 0 where
-  pub next : (c : List ℕ) (at : ℕ) → Bytes c → nexting c s at .answer ≡ refused 11 → ⊥
-  pub closing : closing s .answer ≡ refused 11 → ⊥
-  pub scanning : (c : List ℕ) → Bytes c → scanning c s .answer ≡ refused 11 → ⊥
+  pub next : (c : List ℕ) (at : ℕ) (e : Reason) → Bytes c → nexting c s at .answer ≡ refusedFor e → e .number ≢ 11
+  pub closing : (e : Reason) → closing s .answer ≡ refusedFor e → e .number ≢ 11
+  pub scanning : (c : List ℕ) (e : Reason) → Bytes c → scanning c s .answer ≡ refusedFor e → e .number ≢ 11
 
 -- So 11 is exact, of every value that a state's fields can have.
 unfoldable pub ElevenExact : Type 0

@@ -13,10 +13,10 @@ ghost use lib.Dec.{ltb};
 ghost use mathlib.Core.List.{_++_};
 ghost use Prim.Native.Nat.{_+_, _-_, _≤_, _<_};
 ghost use lib.ListN.{length, take, drop};
-ghost use Rattle.telegram.specs.Numbers.{refused, numberOf};
+ghost use Rattle.telegram.specs.Numbers.{refusedFor, reasonOf};
 ghost use Rattle.telegram.specs.Telegram.{reading};
 ghost use Rattle.frame.specs.Frame.{incomplete, cutting};
-ghost use Rattle.capture.specs.State.{stateOf, standingOf, stopped, going, padded, isLeft, resting as restingAt};
+ghost use Rattle.capture.specs.State.{stateOf, standingOf, stoppedFor, going, padded, isLeft, resting as restingAt};
 ghost use Rattle.capture.specs.Calls.{stepAs, nextAs, without, nextJudged, nextCut, nextBy};
 
 // Twelve bytes with those of a slice put over them from an index on.
@@ -47,7 +47,7 @@ pub(crate) fn bare(step: Step, at: usize, reading: Reading) -> Next
 
 // A refusal stops the reading at its telegram's first byte, and leaves the index where it was.
 fn stop(e: Refusal, position: u64, at: usize) -> Next
-    ensures { λ r. ⌜ nextAs r ≡ without (refused (numberOf e)) at (restingAt (stopped (numberOf e)) position) ⌝ }
+    ensures { λ r. ⌜ nextAs r ≡ without (refusedFor (reasonOf e)) at (restingAt (stoppedFor (reasonOf e)) position) ⌝ }
 {
     bare(Step::Refused(e), at, resting(Phase::Stopped(e), position))
 }

@@ -5,11 +5,9 @@ use frame::Cut;
 ghost use mathlib.Core.Path.{_≡_};
 ghost use Prim.Native.Nat.{_+_, _*_, _^_, _≤_, _<_};
 ghost use lib.ListN.{take, drop};
-ghost use mathlib.Core.Bool.{_&&_};
-ghost use lib.Dec.{leb};
-ghost use Rattle.telegram.specs.Numbers.{numberOf};
+ghost use Rattle.telegram.specs.Numbers.{reasonOf};
 ghost use Rattle.frame.specs.Frame.{cutting};
-ghost use Rattle.capture.specs.State.{stateOf, standingOf, zeros, isLeft, isIncomplete, resting as restingAt};
+ghost use Rattle.capture.specs.State.{stateOf, standingOf, zeros, isLeft, isIncomplete, stops as stopsReading, resting as restingAt};
 use telegram::Refusal;
 
 // A reading that carries nothing. An open one at position 0 is a fresh one.
@@ -81,7 +79,7 @@ fn unfinished(bytes: [u8; 12], n: usize) -> bool
 
 // Whether a refusal stops a reading: 1 to 5.
 fn stops(e: Refusal) -> bool
-    ensures { λ r. ⌜ r ≡ leb 1 (numberOf e) && leb (numberOf e) 5 ⌝ }
+    ensures { λ r. ⌜ r ≡ stopsReading (reasonOf e) ⌝ }
 {
     let n = telegram::refusal_number(e);
     if n < 1 {

@@ -8,7 +8,7 @@ use mathlib.Core.Bool.{Bool, true, false}
 use mathlib.Core.List.{List, [], _∷_, map}
 use lib.ListN.{length, length-replicate}
 use borrow.Author.Tests.{ltb-false}
-use Rattle.telegram.specs.Numbers.{Outcome, refused, done, counted, leaves}
+use Rattle.telegram.specs.Numbers.{Outcome, refusedFor, refused, done, counted, leaves}
 use Rattle.telegram.proofs.Outcomes.{never, passed, went-on}
 use Rattle.telegram.proofs.Front.{front-take}
 use Rattle.rules.specs.declared.Defaults.{Defaults}
@@ -47,7 +47,7 @@ pub heard-call : (mem : List ℕ) (k : Call) (r : Returned) → Delivers mem k r
 heard-call mem k r h = ap₂ heardAs (h .answer) (h .room) ∙ back (calling mem k .outcome)
   where
     back : (o : Outcome (List ℕ)) → heardAs (counted o) (leaves o (k .room)) ≡ o
-    back (refused n) = refl
+    back (refusedFor d) = refl
     back (done s) = ap done (front-take s (k .room))
 
 -- So of a list: contracts leave one memory, and one outcome of each call.
@@ -175,7 +175,7 @@ begun n d before x fresh makes made-done k r delivers accepted =
     record { chain = c; making-done = t .0; holds = h; answer = o .0; answers = o .1 }
   where
     answered : (o : Outcome (List ℕ)) {i : ℕ} → counted o ≡ done i → (t : List ℕ) × (o ≡ done t)
-    answered (refused n) e = absurd (never e)
+    answered (refusedFor d) e = absurd (never e)
     answered (done t) e = (t, refl)
 
 -- Started memory holds a chain that the rules started.

@@ -7,7 +7,7 @@ use Prim.Native.Nat.{ℕ, _%_, _≤_, _<_}
 use native.Mathlib.Omega.{arith}
 use lib.ListN.{getD}
 use borrow.Author.Tests.{lt-ltb, le-ltb}
-use Rattle.telegram.specs.Numbers.{Outcome, refused, done, counted, leaves}
+use Rattle.telegram.specs.Numbers.{Reason, Outcome, refused, done, counted, leaves}
 use Rattle.telegram.specs.Telegram.{reading}
 use Rattle.telegram.specs.declared.Telegram.{Telegram}
 use Rattle.telegram.proofs.Reading.{framed, accepted}
@@ -63,8 +63,8 @@ unfolding deliveredIn
 delivered-as mem s e = rw e
 
 -- A refused telegram leaves the room.
-pub refused-told : (mem room : List ℕ) (n : ℕ) {r : Outcome ℕ} {mem′ : List ℕ}
-    → (r ≡ counted (refusedIn mem n .outcome)) × (mem′ ≡ heldAfter mem (refusedIn mem n))
-    → (r ≡ counted (refusedIn mem n .outcome)) × ((mem′ ≡ heldAfter mem (refusedIn mem n)) × (room ≡ leaves (refusedIn mem n .outcome) room))
+pub refused-told : (mem room : List ℕ) (d : Reason) {r : Outcome ℕ} {mem′ : List ℕ}
+    → (r ≡ counted (refusedIn mem d .outcome)) × (mem′ ≡ heldAfter mem (refusedIn mem d))
+    → (r ≡ counted (refusedIn mem d .outcome)) × ((mem′ ≡ heldAfter mem (refusedIn mem d)) × (room ≡ leaves (refusedIn mem d .outcome) room))
 unfolding refusedIn responding
-refused-told mem room n e = (e .0, (e .1, refl))
+refused-told mem room d e = (e .0, (e .1, refl))

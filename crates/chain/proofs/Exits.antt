@@ -7,7 +7,7 @@ use Prim.Native.Nat.{ℕ, _+_, _≤_, _<_}
 use native.Mathlib.Omega.{arith}
 use lib.ListN.{length, set, take}
 use borrow.Author.Tests.{lt-ltb, le-ltb}
-use Rattle.telegram.specs.Numbers.{Outcome, refused, done, counted, front, leaves}
+use Rattle.telegram.specs.Numbers.{Reason, Outcome, refusedFor, refused, done, counted, front, leaves}
 use Rattle.telegram.specs.Telegram.{telegramOf, building}
 use Rattle.telegram.proofs.Building.{Sendable, listed-le, build-done}
 use Rattle.rules.specs.declared.Defaults.{Defaults}
@@ -27,7 +27,7 @@ chain-no mem r e f = sym e ∙ ap (λ (b : Bool). cond b (done (decode mem)) (re
 
 -- What a call that refuses or gives a chain answers and leaves.
 module _ (mem : List ℕ) (o : Outcome Chain) where
-  pub held-refused : {n : ℕ} → o ≡ refused n → (refused n ≡ silent o) × (mem ≡ held mem o)
+  pub held-refused : {d : Reason} → o ≡ refusedFor d → (refusedFor d ≡ silent o) × (mem ≡ held mem o)
   held-refused e = (sym (ap silent e), sym (ap (held mem) e))
 
   pub held-done : {c : Chain} {left : List ℕ} → o ≡ done c → left ≡ hold mem c → (done 0 ≡ silent o) × (left ≡ held mem o)

@@ -8,7 +8,7 @@ use mathlib.Core.List.{List, [], _∷_, _++_, map}
 use lib.ListN.{length, replicate, length-replicate}
 use native.Mathlib.Omega.{arith}
 use borrow.Author.Tests.{le-leb}
-use Rattle.telegram.specs.Numbers.{Outcome, refused, done, counted, leaves}
+use Rattle.telegram.specs.Numbers.{Outcome, refusedFor, done, counted, leaves}
 use Rattle.rules.specs.declared.Defaults.{Defaults}
 use Rattle.rules.specs.Chain.{Chain, countRight, roomSmall, Moved, deliver, lampIn}
 use Rattle.rules.specs.Lists.{Delivery, run, ownMarks, keep, ForOne, Start, EachAsAlone, NeighboursTrade, NobodysChangeNothing}
@@ -105,8 +105,8 @@ module _ (i j : Call) (a b : ℕ) (f : ForOne (deliveryOf i) a) (g : ForOne (del
           ≡ record { memory = calling (calling mem j .memory) i .memory; outcome = calling mem j .outcome }
       go true y o ei ej e = simp (small-in i ei)
       go false true o ei ej e = simp (small-in j ej)
-      go false false (refused n) ei ej e =
-          simp (enough-in i mem (refused n) ei e, enough-in j mem (refused n) ej e)
+      go false false (refusedFor d) ei ej e =
+          simp (enough-in i mem (refusedFor d) ei e, enough-in j mem (refusedFor d) ej e)
       go false false (done c) ei ej e =
           call-call mem c i j e ei
           ∙ ap (λ (m : Moved). record { memory = hold mem (m .chain); outcome = m .outcome }) (trade-on c)

@@ -9,7 +9,7 @@ use native.Mathlib.Omega.{arith}
 use lib.Dec.{eqb, ltb}
 use lib.ListN.{length, getD}
 use borrow.Author.Tests.{lt-ltb, le-ltb, ne-eqb}
-use Rattle.telegram.specs.Numbers.{Outcome, refused, done, refuse, counted, front}
+use Rattle.telegram.specs.Numbers.{Reason, Outcome, refusedFor, refused, done, refuse, counted, front}
 use Rattle.telegram.specs.Telegram.{Bytes}
 use Rattle.telegram.specs.declared.Address.{Address}
 use Rattle.telegram.proofs.Outcomes.{never, refused-one, passed}
@@ -67,15 +67,15 @@ unfolding permitting
 permit-group xs n g i h = never (simp i at h)
 
 -- What is not permitted is refused with 7 or 12, never with 5.
-pub permit-number : (xs : List Lamp) (t : Sent) {k : ℕ} → permitting xs t ≡ refused k → k ≢ 5
+pub permit-number : (xs : List Lamp) (t : Sent) {r : Reason} → permitting xs t ≡ refusedFor r → r .number ≢ 5
 unfolding permitting
-permit-number xs t {k} h five = go (isInit (t .message .number)) (t .cast) h
+permit-number xs t {r} h five = go (isInit (t .message .number)) (t .cast) h
   where
-    ten : (b : Bool) (n : ℕ) → n ≢ 5 → refuse b n (done t) ≡ refused k → ⊥
-    ten true n ne e = ne (refused-one e ∙ five)
+    ten : (b : Bool) (n : ℕ) → n ≢ 5 → refuse b n (done t) ≡ refusedFor r → ⊥
+    ten true n ne e = ne (ap (λ (x : Reason). x .number) (refused-one e) ∙ five)
     ten false n ne e = never (sym e)
 
-    go : (b : Bool) (cast : Cast) → cond b (permittingInit xs t cast) (done t) ≡ refused k → ⊥
+    go : (b : Bool) (cast : Cast) → cond b (permittingInit xs t cast) (done t) ≡ refusedFor r → ⊥
     go true Everyone e = ten (anyUnaddressed xs) 7 (omega arith) e
     go true (One a) e = ten (ltb 0x3EF (a .0 + length xs - 1)) 12 (omega arith) e
     go true (Group g) e = ten true 7 (omega arith) e
@@ -87,10 +87,11 @@ module _ (mem : List ℕ) (b : Bytes mem) (v : Valid mem (decode mem)) where
   unfolding respondedIn walkedIn responding
   respond-granted t h = simp h
 
-  pub respond-refused : (t : Sent) (room : List ℕ) {k : ℕ} → permitting (decode mem .lamps) t ≡ refused k → Walks mem room (respondedIn mem t) (refused k) mem room
+  pub respond-refused : (t : Sent) (room : List ℕ) {r : Reason} → permitting (decode mem .lamps) t ≡ refusedFor r
+      → Walks mem room (respondedIn mem t) (refusedFor r) mem room
   unfolding respondedIn responding
-  respond-refused t room {k} h =
-      let n = ne-eqb k 5 (permit-number (decode mem .lamps) t h) in
+  respond-refused t room {r} h =
+      let n = ne-eqb (r .number) 5 (permit-number (decode mem .lamps) t h) in
       walks-refused mem room (simp (h, n)) (held-same mem b v)
 
   -- An init from an address: past 3EF, and not.

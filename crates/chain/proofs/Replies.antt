@@ -9,7 +9,7 @@ use native.Mathlib.Omega.{arith}
 use lib.Dec.{eqb}
 use lib.ListN.{length}
 use borrow.Author.Tests.{eqb-true}
-use Rattle.telegram.specs.Numbers.{Outcome, refused, done, refuse}
+use Rattle.telegram.specs.Numbers.{Outcome, refusedFor, refused, done, refuse}
 use Rattle.telegram.specs.declared.Address.{Address}
 use Rattle.telegram.proofs.Outcomes.{never, done-one, passed}
 use Rattle.table.specs.Casts.{addressOf}
@@ -179,7 +179,7 @@ accepted-in mem s room x xs e = go (refuse (roomSmall room) 9 (chainIn mem)) ref
     go : (o : Outcome Chain) → refuse (roomSmall room) 9 (chainIn mem) ≡ o
         → onChain mem o (λ (c : Chain). deliver c s room) .outcome ≡ done (x ∷ xs)
         → AnswerAccepted s (lampRead (onChain mem o (λ (c : Chain). deliver c s room) .memory)) (x ∷ xs)
-    go (refused n) h k = absurd (never k)
+    go (refusedFor d) h k = absurd (never k)
     go (done c) h k =
         let a = every-answer-accepted c s room x xs k in
         let holds = kept-holds mem c _ (passed (roomSmall room) 9 (chainIn mem) h .1) (deliver-keeps c s room) in

@@ -6,7 +6,7 @@ use mathlib.Core.List.{List, [], _∷_}
 use Prim.Native.Nat.{ℕ, _<_}
 use lib.ListN.{length, getD, set}
 use borrow.Author.Tests.{eq-eqb, ne-eqb}
-use Rattle.telegram.specs.Numbers.{Outcome, refused, done, counted, front, leaves}
+use Rattle.telegram.specs.Numbers.{Reason, Outcome, refusedFor, done, counted, front, leaves}
 use Rattle.telegram.specs.Telegram.{Bytes}
 use Rattle.telegram.specs.declared.Address.{Address}
 use Rattle.table.specs.declared.Cast.the-variants.{One}
@@ -58,8 +58,8 @@ module _ (mem room : List ℕ) {w : Walked} {xs : List Lamp} where
         lent = r ∙ sym (ap (λ (x : Walked). leaves (x .outcome) room) e);
       }
 
-  pub walks-refused : {n : ℕ} {mem′ : List ℕ} → w ≡ record { lamps = xs; outcome = refused n }
-      → mem′ ≡ hold mem (withLamps (decode mem) xs) → Walks mem room w (refused n) mem′ room
+  pub walks-refused : {r : Reason} {mem′ : List ℕ} → w ≡ record { lamps = xs; outcome = refusedFor r }
+      → mem′ ≡ hold mem (withLamps (decode mem) xs) → Walks mem room w (refusedFor r) mem′ room
   unfolding heldAfter
   walks-refused e m =
       record {
@@ -120,17 +120,17 @@ module _ (mem : List ℕ) (b : Bytes mem) (v : Valid mem (decode mem)) where
         (eo ∙ ap (λ (p : List ℕ). front (answerFrom (a .0) (m .number) p) room) (ep ∙ ap (answered d m) (sym g)))
 
   -- A refusal other than 5 changes nothing; 5 sets CE on the lamp at place 0.
-  pub refuse-other : (n : ℕ) (room : List ℕ) → n ≢ 5 → Walks mem room (refusedIn mem n) (refused n) mem room
+  pub refuse-other : (r : Reason) (room : List ℕ) → r .number ≢ 5 → Walks mem room (refusedIn mem r) (refusedFor r) mem room
   unfolding refusedIn responding decode
-  refuse-other n room h = walks-refused mem room (rw (ne-eqb n 5 h)) held-same
+  refuse-other r room h = walks-refused mem room (rw (ne-eqb (r .number) 5 h)) held-same
 
-  pub refuse-marks : (n : ℕ) (room : List ℕ) → n ≡ 5 → {mem′ : List ℕ} → mem′ ≡ withLamp mem 0 (withCE (lampAt mem 0))
-      → Walks mem room (refusedIn mem n) (refused n) mem′ room
+  pub refuse-marks : (r : Reason) (room : List ℕ) → r .number ≡ 5 → {mem′ : List ℕ} → mem′ ≡ withLamp mem 0 (withCE (lampAt mem 0))
+      → Walks mem room (refusedIn mem r) (refusedFor r) mem′ room
   unfolding refusedIn responding decode
-  refuse-marks n room e em =
+  refuse-marks r room e em =
       let x = lampAt mem 0 in
       let xs : lampsIn (countOf mem) mem ≡ x ∷ rest 1 (countOf mem) mem = sym (rest-all (countOf mem) mem) ∙ rest-more 0 (countOf mem) mem (v .some) in
-      walks-refused mem room (rw (eq-eqb n 5 e, xs))
+      walks-refused mem room (rw (eq-eqb (r .number) 5 e, xs))
       (em ∙ hold-set mem b (v .room) 0 (withCE x) (v .some)
       ∙ ap (λ (ys : List Lamp). hold mem (withLamps (decode mem) (set ys 0 (withCE x)))) xs)
 

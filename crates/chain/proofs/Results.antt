@@ -10,7 +10,7 @@ use lib.Dec.{eqb, leb, ltb}
 use lib.ListN.{length}
 use Rattle.telegram.specs.declared.Refusal.{Refusal}
 use Rattle.telegram.specs.declared.Refusal.the-variants.{TooShort, Preamble, SizeIndex, ByteCount, Checksum, UnknownCommand, CastNotAllowed, PayloadSize, RoomTooSmall, NoChain, InitPastEnd}
-use Rattle.telegram.specs.Numbers.{Outcome, refused, done, refuse, after, numberOf, counted, leaves}
+use Rattle.telegram.specs.Numbers.{Outcome, refusedFor, done, refuseFor, refuse, after, counted, leaves, reasonOf}
 use Rattle.telegram.proofs.Outcomes.{never, refused-one}
 use Rattle.telegram.specs.Telegram.{preambleIn, indexIn, sizeOf, checksumRight, framing, reading}
 use Rattle.table.specs.Casts.{destination}
@@ -30,19 +30,19 @@ use Rattle.chain.specs.declared.Delivered.the-variants.{Done, Refused}
 use Rattle.chain.specs.Memory.{deliveredAs, onChain, delivered, silent, made}
 use Rattle.chain.specs.Calls.{Returned, EveryListHasResults}
 
--- An outcome that the code can answer with: done, or refused with the number of one of its refusals.
+-- An outcome that the code can answer with: done, or refused for the reason of one of its refusals.
 pub data Answerable {A : Type 0} (o : Outcome A) : Type 0 where
   well : (a : A) → o ≡ done a → Answerable o
-  told : (e : Refusal) → o ≡ refused (numberOf e) → Answerable o
+  told : (e : Refusal) → o ≡ refusedFor (reasonOf e) → Answerable o
 
 -- One test of an order, and what goes on.
-refusing : {A : Type 0} (b : Bool) (e : Refusal) (o : Outcome A) → Answerable o → Answerable (refuse b (numberOf e) o)
+refusing : {A : Type 0} (b : Bool) (e : Refusal) (o : Outcome A) → Answerable o → Answerable (refuseFor b (reasonOf e) o)
 refusing true e o h = told e refl
 refusing false e o h = h
 
 going-on : {A B : Type 0} (o : Outcome A) (next : A → Outcome B) → Answerable o → ((a : A) → Answerable (next a)) → Answerable (after o next)
-going-on (refused n) next (well a q) k = absurd (never q)
-going-on (refused n) next (told e q) k = told e (ap refused (refused-one q))
+going-on (refusedFor d) next (well a q) k = absurd (never q)
+going-on (refusedFor d) next (told e q) k = told e (ap refusedFor (refused-one q))
 going-on (done a) next h k = k a
 
 -- The reader, and the dissector behind it.
@@ -132,8 +132,8 @@ visiting-done d n t p x = go (isInit k) (t .cast)
     go false (Group g) = tt
 
 taken-answerable : (d : Defaults) (xs : List Lamp) (o : Outcome Sent) → Answerable o → Answerable (taken d xs o .outcome)
-taken-answerable d xs (refused n) (well t q) = absurd (never q)
-taken-answerable d xs (refused n) (told e q) = told e (ap refused (refused-one q))
+taken-answerable d xs (refusedFor r) (well t q) = absurd (never q)
+taken-answerable d xs (refusedFor r) (told e q) = told e (ap refusedFor (refused-one q))
 taken-answerable d xs (done t) h =
     go (walk-ended Ends (visiting d (length xs) t) (length xs) (λ p x l. visiting-done d (length xs) t p x) 0 xs (omega arith))
   where
@@ -158,8 +158,8 @@ chain-answerable mem =
 
 -- The code's answer for such an outcome.
 pub answering : (o : Outcome (List ℕ)) → Answerable o → (r : Delivered) × (deliveredAs r ≡ counted o)
-answering (refused n) (well s q) = absurd (never q)
-answering (refused n) (told e q) = (Refused e, ap refused (sym (refused-one q)))
+answering (refusedFor d) (well s q) = absurd (never q)
+answering (refusedFor d) (told e q) = (Refused e, ap refusedFor (sym (refused-one q)))
 answering (done s) h = (Done (length s), refl)
 
 -- So delivery can always be answered ..
@@ -168,8 +168,8 @@ unfolding delivered deliver
 deliver-answer mem s room = answering _ (go (refuse (roomSmall room) 9 (chainIn mem)) (refusing (roomSmall room) RoomTooSmall _ (chain-answerable mem)))
   where
     go : (o : Outcome Chain) → Answerable o → Answerable (onChain mem o (λ (c : Chain). deliver c s room) .outcome)
-    go (refused n) (well c q) = absurd (never q)
-    go (refused n) (told e q) = told e (ap refused (refused-one q))
+    go (refusedFor d) (well c q) = absurd (never q)
+    go (refusedFor d) (told e q) = told e (ap refusedFor (refused-one q))
     go (done c) h = delivering-answerable (c .defaults) (c .lamps) s room
 
 -- .. and the making of a chain.
@@ -178,8 +178,8 @@ unfolding made
 make-answer mem n d = go (made mem n d) (going-on (making n d) _ (refusing (not (countRight n)) NoChain _ (well _ refl)) (λ c. refusing (ltb (length mem) (recordLength n)) RoomTooSmall _ (well _ refl)))
   where
     go : (o : Outcome Chain) → Answerable o → (r : Delivered) × (deliveredAs r ≡ silent o)
-    go (refused k) (well c q) = absurd (never q)
-    go (refused k) (told e q) = (Refused e, ap refused (sym (refused-one q)))
+    go (refusedFor d) (well c q) = absurd (never q)
+    go (refusedFor d) (told e q) = (Refused e, ap refusedFor (sym (refused-one q)))
     go (done c) h = (Done 0, refl)
 
 -- For every list of calls there are results that keep the contract.

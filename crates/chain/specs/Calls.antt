@@ -6,7 +6,7 @@ use mathlib.Core.Logic.{_≢_}
 use mathlib.Core.Bool.{true}
 use mathlib.Core.List.{List, [], _∷_, _++_, map}
 use lib.ListN.{length, take}
-use Rattle.telegram.specs.Numbers.{Outcome, refused, done, counted, leaves}
+use Rattle.telegram.specs.Numbers.{Outcome, refusedFor, done, counted, leaves}
 use Rattle.table.specs.declared.Cast.the-variants.{One}
 use Rattle.command.specs.Commands.{Sent, dissecting}
 use Rattle.rules.specs.declared.Defaults.{Defaults}
@@ -52,7 +52,7 @@ lastMemory mem (r ∷ rs) = lastMemory (r .memory) rs
 
 -- What is compared of a call: the number given back and the answer's bytes, or that there is none ..
 abbrev pub heardAs : Outcome ℕ → List ℕ → Outcome (List ℕ)
-heardAs (refused n) room = refused n
+heardAs (refusedFor e) room = refusedFor e
 heardAs (done count) room = done (take count room)
 
 -- .. of what a call left and gave back.

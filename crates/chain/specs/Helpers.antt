@@ -3,7 +3,7 @@
 use Prim.Native.Nat.{ℕ}
 use mathlib.Core.List.{List, []}
 use lib.ListN.{length}
-use Rattle.telegram.specs.Numbers.{Outcome, refused, done, numberOf}
+use Rattle.telegram.specs.Numbers.{Reason, Outcome, refusedFor, done, reasonOf}
 use Rattle.table.specs.declared.Cast.{Cast}
 use Rattle.table.specs.declared.Cast.the-variants.{Everyone, Group}
 use Rattle.command.specs.Fields.{layoutOf, fieldsBy}
@@ -27,10 +27,10 @@ walkedIn mem t = walk (visiting (decode mem .defaults) (length (decode mem .lamp
 unfoldable pub deliveredIn : List ℕ → List ℕ → Walked
 deliveredIn mem s = responding (decode mem .defaults) (decode mem .lamps) (dissecting s)
 
--- Whether a telegram may be done: the number of its refusal, or done with it.
+-- Whether a telegram may be done: its refusal, or done with it.
 abbrev pub permitAs : Permit → Sent → Outcome Sent
 permitAs Granted t = done t
-permitAs (Refused e) t = refused (numberOf e)
+permitAs (Refused e) t = refusedFor (reasonOf e)
 
 -- An init of a kind, 02 or 03, for a cast.
 abbrev pub initOf : ℕ → Cast → Sent
@@ -49,9 +49,9 @@ abbrev pub castOf : Reach → Cast
 castOf ReachEveryone = Everyone
 castOf (Members g) = Group g
 
--- A refusal with a number and the lamps in memory: 5 sets CE on the lamp at place 0.
-unfoldable pub refusedIn : List ℕ → ℕ → Walked
-refusedIn mem n = responding (decode mem .defaults) (decode mem .lamps) (refused n)
+-- A refusal for a reason and the lamps in memory: 5 sets CE on the lamp at place 0.
+unfoldable pub refusedIn : List ℕ → Reason → Walked
+refusedIn mem e = responding (decode mem .defaults) (decode mem .lamps) (refusedFor e)
 
 -- The walk of a command that is no init along the lamps in memory.
 unfoldable pub reachedIn : List ℕ → Message → Cast → Walked

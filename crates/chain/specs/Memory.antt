@@ -4,7 +4,7 @@ use Prim.Native.Nat.{ℕ}
 use mathlib.Core.List.{List}
 use lib.Dec.{ltb}
 use lib.ListN.{length}
-use Rattle.telegram.specs.Numbers.{Outcome, refused, done, refuse, after, numberOf}
+use Rattle.telegram.specs.Numbers.{Outcome, refusedFor, done, refuse, after, reasonOf}
 use Rattle.rules.specs.declared.Defaults.{Defaults}
 use Rattle.rules.specs.declared.Lamp.{Lamp}
 use Rattle.rules.specs.Chain.{Chain, Moved, roomSmall, deliver, making, sensing, lampIn}
@@ -14,15 +14,15 @@ use Rattle.chain.specs.declared.Delivered.the-variants.{Done, Refused}
 use Rattle.chain.specs.declared.LampRead.{LampRead}
 use Rattle.chain.specs.declared.LampRead.the-variants.{Read, Unread}
 
--- What a call on a chain answers: the number of its refusal, or done with how many bytes its answer has.
+-- What a call on a chain answers: its refusal, or done with how many bytes its answer has.
 abbrev pub deliveredAs : Delivered → Outcome ℕ
 deliveredAs (Done n) = done n
-deliveredAs (Refused e) = refused (numberOf e)
+deliveredAs (Refused e) = refusedFor (reasonOf e)
 
--- What reading a lamp out answers: the number of its refusal, or done with the lamp.
+-- What reading a lamp out answers: its refusal, or done with the lamp.
 abbrev pub lampReadAs : LampRead → Outcome Lamp
 lampReadAs (Read l) = done l
-lampReadAs (Unread e) = refused (numberOf e)
+lampReadAs (Unread e) = refusedFor (reasonOf e)
 
 -- What a call leaves: the record's memory, and the outcome, done with the bytes of the answer.
 pub record Left : Type 0 where
@@ -31,7 +31,7 @@ pub record Left : Type 0 where
 
 -- A call on the chain that memory holds. A refusal before leaves the memory.
 abbrev pub onChain : List ℕ → Outcome Chain → (Chain → Moved) → Left
-onChain mem (refused n) call = record { memory = mem; outcome = refused n }
+onChain mem (refusedFor e) call = record { memory = mem; outcome = refusedFor e }
 onChain mem (done c) call = record { memory = hold mem (call c .chain); outcome = call c .outcome }
 
 -- Delivery: 9 (answer room under 12 bytes), 11, then 1 to 8, 12.
@@ -40,7 +40,7 @@ delivered mem s room = onChain mem (refuse (roomSmall room) 9 (chainIn mem)) (λ
 
 -- Memory after a call that gives a chain or refuses: a refusal changes nothing lent.
 abbrev pub held : List ℕ → Outcome Chain → List ℕ
-held mem (refused n) = mem
+held mem (refusedFor e) = mem
 held mem (done c) = hold mem c
 
 -- Done without an answer: no bytes.

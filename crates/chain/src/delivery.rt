@@ -26,7 +26,7 @@ ghost use mathlib.Core.Path.{_≡_};
 ghost use mathlib.Core.Bool.{true};
 ghost use Prim.Native.Nat.{_≤_};
 ghost use lib.ListN.{length, take};
-ghost use Rattle.telegram.specs.Numbers.{done, numberOf, builtAs, counted, front, leaves};
+ghost use Rattle.telegram.specs.Numbers.{done, reasonOf, builtAs, counted, front, leaves};
 ghost use Rattle.telegram.specs.Telegram.{listed};
 ghost use Rattle.table.specs.Table.{sizeRight};
 ghost use Rattle.table.specs.Casts.{castInRange};
@@ -132,8 +132,8 @@ fn respond(mem: &mut [u8], n: u8, payload: &[u8], cast: Cast, room: &mut [u8]) -
 // A refused telegram. It changes nothing, but 5 sets CE on the lamp at place 0.
 fn refuse(mem: &mut [u8], e: Refusal) -> Delivered
     requires { ⌜ chainIn (now mem) ≡ done (decode (now mem)) ⌝ }
-    ensures answer { λ r. ⌜ deliveredAs r ≡ counted (refusedIn (now (mem .entry)) (numberOf e) .outcome) ⌝ }
-    ensures memory { λ r. ⌜ now (mem .exit) ≡ heldAfter (now (mem .entry)) (refusedIn (now (mem .entry)) (numberOf e)) ⌝ }
+    ensures answer { λ r. ⌜ deliveredAs r ≡ counted (refusedIn (now (mem .entry)) (reasonOf e) .outcome) ⌝ }
+    ensures memory { λ r. ⌜ now (mem .exit) ≡ heldAfter (now (mem .entry)) (refusedIn (now (mem .entry)) (reasonOf e)) ⌝ }
 {
     if telegram::refusal_number(e) == 5 {
         mark_one(mem, Place(0), true);

@@ -8,7 +8,7 @@ use Prim.Native.Nat.{ℕ, _+_, _-_, _≤_}
 use native.Mathlib.Nat.{add-sub-cancel-left}
 use lib.ListN.{length, take, drop}
 use borrow.Author.Tests.{not-false}
-use Rattle.telegram.specs.Numbers.{refused, done, after}
+use Rattle.telegram.specs.Numbers.{Reason, refusedFor, refused, done, after}
 use Rattle.telegram.specs.Telegram.{reading, payloadIn}
 use Rattle.telegram.specs.declared.Telegram.{Telegram}
 use Rattle.telegram.proofs.Outcomes.{done-one, passed, went-on}
@@ -90,7 +90,7 @@ module _ (s : List ℕ) (t : Telegram) (cast : Cast) (e : headingAs s t (To cast
       ∙ e
 
 module _ (s : List ℕ) where
-  pub dissect-refused : {n : ℕ} → reading s ≡ refused n → refused n ≡ dissecting s
+  pub dissect-refused : {d : Reason} → reading s ≡ refusedFor d → refusedFor d ≡ dissecting s
   unfolding dissecting
   dissect-refused e = simp e
 

@@ -10,7 +10,7 @@ use lib.Dec.{leb, ltb}
 use lib.ListN.{length, getD, drop, length-drop, List·getD-eq-default}
 use lib.Seq.{getD-take, getD-drop, length-take-le}
 use borrow.Author.Tests.{ltb-true, ltb-false, leb-true}
-use Rattle.telegram.specs.Numbers.{Outcome, refused, done}
+use Rattle.telegram.specs.Numbers.{Outcome, refusedFor, done}
 use Rattle.telegram.specs.Telegram.{Bytes, reading, building, listed, payloadIn}
 use Rattle.telegram.specs.declared.Telegram.{Telegram}
 use Rattle.telegram.proofs.Reading.{accepted-count}
@@ -73,7 +73,7 @@ dissected-builds s m y e room h =
 
 -- A cast that the table lists is listed in a row.
 row-of : (o : Outcome Row) (cast : Cast) → listsCast o cast ≡ true → (r : Row) × ((o ≡ done r) × (castListed (r .casts) cast ≡ true))
-row-of (refused n) cast h = absurd (let z : _≡_ {A = ℕ} 0 1 = cc in omega arith)
+row-of (refusedFor d) cast h = absurd (let z : _≡_ {A = ℕ} 0 1 = cc in omega arith)
 row-of (done r) cast h = (r, (refl, h))
 
 -- What is built dissects back to the same command, cast and fields.

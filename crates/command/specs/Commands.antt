@@ -5,7 +5,7 @@ use Prim.Native.Nat.{ℕ, _-_}
 use mathlib.Core.Bool.{not}
 use mathlib.Core.List.{List, [], _∷_, _++_}
 use lib.ListN.{length, replicate}
-use Rattle.telegram.specs.Numbers.{Outcome, refused, done, refuse, after, fitted, numberOf}
+use Rattle.telegram.specs.Numbers.{Outcome, refusedFor, done, refuse, after, fitted, reasonOf}
 use Rattle.telegram.specs.Telegram.{reading, payloadIn, telegramOf}
 use Rattle.telegram.specs.declared.Telegram.{Telegram}
 use Rattle.table.specs.Casts.{destination, addressOf, castInRange}
@@ -71,16 +71,16 @@ pub record Sent : Type 0 where
 abbrev pub sentAs : Dissected → Sent
 sentAs d = record { message = messageOf (d .command); cast = d .cast }
 
--- The dissector's answer: the number of its refusal, or done with the command's number, its fields and its cast.
+-- The dissector's answer: its refusal, or done with the command's number, its fields and its cast.
 abbrev pub dissectionAs : Dissection → Outcome Sent
 dissectionAs (Accepted d) = done (sentAs d)
-dissectionAs (Refused e) = refused (numberOf e)
+dissectionAs (Refused e) = refusedFor (reasonOf e)
 
--- What the heading of a telegram says of its bytes: the number of its refusal, or done with the command in them and its cast.
+-- What the heading of a telegram says of its bytes: its refusal, or done with the command in them and its cast.
 abbrev pub headingAs : List ℕ → Telegram → Heading → Outcome Sent
 headingAs s t (To cast) =
     done (record { message = numbered (t .command) (fieldsBy (layoutOf (t .command)) (payloadIn s (t .size))); cast = cast })
-headingAs s t (Heading-refused e) = refused (numberOf e)
+headingAs s t (Heading-refused e) = refusedFor (reasonOf e)
 
 -- Of a row and a cast: 7 for a cast that the table doesn't list, then 8.
 abbrev pub fitting : List ℕ → Telegram → Row → Cast → Outcome Sent
@@ -106,10 +106,10 @@ unfoldable pub composing : ℕ → List ℕ → Outcome Message
 composing n p =
     after (rowOf n) (λ (r : Row). refuse (not (payloadFits r (length p))) 8 (done (numbered n (fieldsBy (layoutOf n) p))))
 
--- The code's answer: the number of its refusal, or done with the command.
+-- The code's answer: its refusal, or done with the command.
 abbrev pub composedAs : Composed → Outcome Message
 composedAs (Command-accepted c) = done (messageOf c)
-composedAs (Command-refused e) = refused (numberOf e)
+composedAs (Command-refused e) = refusedFor (reasonOf e)
 
 -- The command builder, of a command, its cast and the length of the room: 10, 7, 9.
 unfoldable pub buildingCommand : Message → Cast → ℕ → Outcome (List ℕ)

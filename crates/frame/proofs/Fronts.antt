@@ -8,7 +8,7 @@ use Prim.Native.Nat.{ℕ, zero, suc, _+_, _<_}
 use native.Mathlib.Omega.{arith}
 use lib.ListN.{length, take, drop, replicate}
 use lib.Seq.{getD-drop, length-take-le}
-use Rattle.telegram.specs.Numbers.{refused, done}
+use Rattle.telegram.specs.Numbers.{Reason, bare, refusedFor, done}
 use Rattle.telegram.specs.Telegram.{indexIn, sizeOf, telegramIn, framing, reading, checksumRight, Bytes}
 use Rattle.telegram.specs.declared.Telegram.{Telegram}
 use Rattle.telegram.proofs.Outcomes.{never, refused-one}
@@ -53,17 +53,17 @@ accepted-whole t l x e =
     sym (cut-whole t (omega (arith, f .enough)) (f .preamble) (omega (arith, f .enough)) (f .index) (omega arith)) ∙ ap whole n in
     whole-stays t l (length t) w
 
-checksum-only : (t : List ℕ) (x : Telegram) (n : ℕ) → framing t ≡ done x → reading t ≡ refused n
-    → (b : Bool) → checksumRight t (x .size) ≡ b → n ≡ 5
-checksum-only t x n f r false c = refused-one (sym r ∙ sym (read-checksum t x f c))
-checksum-only t x n f r true c = absurd (never (sym r ∙ sym (read-done t x f c)))
+checksum-only : (t : List ℕ) (x : Telegram) (d : Reason) → framing t ≡ done x → reading t ≡ refusedFor d
+    → (b : Bool) → checksumRight t (x .size) ≡ b → d ≡ bare 5
+checksum-only t x d f r false c = refused-one (sym r ∙ sym (read-checksum t x f c))
+checksum-only t x d f r true c = absurd (never (sym r ∙ sym (read-done t x f c)))
 
 -- Of a whole telegram the reader refuses only the checksum.
-pub whole-refused : (s : List ℕ) (k n : ℕ) → cutting s ≡ whole k → reading (take k s) ≡ refused n → n ≡ 5
-whole-refused s k n e r =
+pub whole-refused : (s : List ℕ) (k : ℕ) (d : Reason) → cutting s ≡ whole k → reading (take k s) ≡ refusedFor d → d ≡ bare 5
+whole-refused s k d e r =
     let t = take k s in
     let q = complete t k (front-whole s k e) in
     let m : length t ≡ k = length-take-le k s (complete s k e .count) in
     let f : framing t ≡ done (telegramIn t) =
     sym (frame-done t (omega (arith, q .size)) (q .preamble) (q .index) (omega (arith, q .size))) in
-    checksum-only t (telegramIn t) n f r (checksumRight t (telegramIn t .size)) refl
+    checksum-only t (telegramIn t) d f r (checksumRight t (telegramIn t .size)) refl

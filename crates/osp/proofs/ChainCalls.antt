@@ -5,7 +5,7 @@ use mathlib.Core.List.{List, [], _∷_, _++_}
 use Prim.Native.Nat.{ℕ, _/_, _%_, _<_}
 use native.Mathlib.Omega.{arith}
 use lib.ListN.{length}
-use Rattle.telegram.specs.Numbers.{Outcome, refused, done, counted}
+use Rattle.telegram.specs.Numbers.{Outcome, refusedFor, done, counted}
 use Rattle.telegram.proofs.Outcomes.{never, done-one}
 use Rattle.rules.specs.declared.Lamp.{Lamp}
 use Rattle.rules.specs.Chain.{Chain}
@@ -18,7 +18,7 @@ pub silent-short : (o : Outcome Chain) {d : Outcome ℕ} → d ≡ silent o → 
 silent-short o {d} e n h = go o (sym e ∙ h)
   where
     go : (q : Outcome Chain) → silent q ≡ done n → n < 65536
-    go (refused k) u = absurd (never u)
+    go (refusedFor d) u = absurd (never u)
     go (done c) u = let z : 0 ≡ n = done-one u in omega arith
 
 -- .. and a short answer few.
@@ -26,7 +26,7 @@ pub counted-short : (o : Outcome (List ℕ)) {d : Outcome ℕ} → Short o → d
 counted-short o {d} s e n h = go o s (sym e ∙ h)
   where
     go : (q : Outcome (List ℕ)) → Short q → counted q ≡ done n → n < 65536
-    go (refused k) t u = absurd (never u)
+    go (refusedFor d) t u = absurd (never u)
     go (done bs) t u = let z : length bs ≡ n = done-one u in omega arith
 
 -- The bytes of a lamp, from those before its PWM bytes and these.

@@ -8,7 +8,7 @@ use native.Mathlib.Nat.{add-sub-cancel-left}
 use lib.ListN.{length, take, drop, length-append, length-drop}
 use lib.Seq.{take-length, length-take-le}
 use borrow.Rule.Slice.PartMut.{putMid}
-use Rattle.telegram.specs.Numbers.{Outcome, refused, done, front, counted, builtAs}
+use Rattle.telegram.specs.Numbers.{Outcome, refusedFor, done, front, counted, builtAs}
 use Rattle.telegram.specs.Telegram.{building}
 use Rattle.telegram.specs.declared.Built.{Built}
 use Rattle.telegram.proofs.Front.{overwritten, front-over, put-over}
@@ -30,7 +30,7 @@ use Rattle.osp.specs.Interface.{readBytes, sentBytes, replyBytes}
 -- The count of a builder's answer is short, where what it builds is.
 pub count-short : (b : Built) (o : Outcome (List ℕ)) → builtAs b ≡ counted o → ((s : List ℕ) → o ≡ done s → length s < 65536)
     → (n : ℕ) → builtAs b ≡ done n → n < 65536
-count-short b (refused k) e h n d = absurd (never (sym e ∙ d))
+count-short b (refusedFor r) e h n d = absurd (never (sym e ∙ d))
 count-short b (done s) e h n d = let l : length s ≡ n = done-one (sym e ∙ d) in omega (arith, h s refl)
 
 -- What the two builders build is short.

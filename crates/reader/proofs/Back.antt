@@ -9,13 +9,13 @@ use borrow.Author.Tests.{le-leb}
 use lib.Dec.{leb}
 use lib.ListN.{length, getD, take, drop, set, replicate, length-append, length-drop, take-append-drop, getD-replicate}
 use lib.Seq.{length-take-le, take-all, take-at, take-suc, drop-at, drop-cons, drop-drop, getD-append-add}
-use Rattle.telegram.specs.Numbers.{done}
+use Rattle.telegram.specs.Numbers.{Reason, done}
 use Rattle.telegram.specs.Telegram.{Bytes}
 use Rattle.telegram.proofs.Outcomes.{never, done-one, passed, went-on}
 use Rattle.frame.proofs.Fronts.{bytes-zeros, bytes-none, bytes-cons, bytes-append, bytes-take, bytes-drop}
-use Rattle.capture.specs.State.{Standing, going, ended, stopped, State, carriedIn, padded}
+use Rattle.capture.specs.State.{Standing, going, ended, stoppedFor, stopped, State, carriedIn, padded}
 use Rattle.capture.specs.Uncut.{Taken, Position}
-use Rattle.capture.proofs.States.{left, none-stopped, carried-count, carried-padded}
+use Rattle.capture.proofs.States.{left, none-stopped, stops-bare, carried-count, carried-padded}
 use Rattle.capture.proofs.Taken.{taken-fresh}
 use Rattle.reader.specs.Layout.{standingIn, countIn, positionIn, carriedBytes, stateIn, standingByte, valueByte, positionBytes, stateHead, stateBytes, holding}
 use Rattle.reader.specs.Kept.{FreshIsZeros, FreshIsTaken, StateComesBack, HeldStays, TakenIn}
@@ -37,9 +37,10 @@ standing-back : (s : State) → Taken s → (k : Standing) → s .standing ≡ k
     → (done k ≡ standingIn (standingByte k) (valueByte k (s .count))) × (countIn k (valueByte k (s .count)) ≡ s .count)
 standing-back s t going o = (refl, refl)
 standing-back s t ended o = (refl, refl)
-standing-back s t (stopped n) o =
-    let r = none-stopped s (t .leaves) n o in
-    (simp (le-leb 1 n (r .1), le-leb n 5 (r .2)), sym (r .0))
+standing-back s t (stoppedFor d) o =
+    let r = none-stopped s (t .leaves) d o in
+    let b = stops-bare d (r .1) in
+    (ap (λ (x : Reason). done (stoppedFor x)) (sym (b .0)) ∙ simp (le-leb 1 _ (b .1), le-leb _ 5 (b .2)), sym (r .0))
 
 -- .. and they come back from it.
 abbrev Said : ℕ → ℕ → Standing → Type 0
@@ -202,7 +203,7 @@ module _ (s : State) (mem : List ℕ) (k : TakenIn s mem) where
 standing-low : (s : State) → Taken s → (k : Standing) → s .standing ≡ k → (standingByte k < 256) × (valueByte k (s .count) < 256)
 standing-low s t going o = (omega arith, omega (arith, left s (t .leaves) .few))
 standing-low s t ended o = (omega arith, omega (arith, left s (t .leaves) .few))
-standing-low s t (stopped n) o = (omega arith, omega (arith, none-stopped s (t .leaves) n o .2))
+standing-low s t (stoppedFor d) o = (omega arith, omega (arith, stops-bare d (none-stopped s (t .leaves) d o .1) .2))
 
 pub kept-taken : (s : State) (mem : List ℕ) → Taken s → Position (s .position) → 21 ≤ length mem → Bytes mem → TakenIn s (holding s mem)
 unfolding StateComesBack

@@ -3,14 +3,14 @@ use mathlib.Core.Path.{_≡_, refl, sym, ap, _∙_}
 use mathlib.Core.Bool.{Bool, true, false, cond}
 use mathlib.Core.List.{List}
 use Prim.Native.Nat.{ℕ}
-use Rattle.telegram.specs.Numbers.{Outcome, refused, done, leaves}
+use Rattle.telegram.specs.Numbers.{Reason, Outcome, refusedFor, done, leaves}
 use Rattle.capture.specs.State.{State, isLeft}
 use Rattle.capture.specs.Calls.{Given, nexting, Closed, closing}
 use Rattle.reader.specs.Layout.{stateIn}
 use Rattle.reader.specs.Interface.{returned, Called, answering, nextIn, readerNext, Ended, endAnswering, endIn, readerEnd, positionBy, readerPosition}
 
 module _ (mem chunk : List ℕ) (at room : ℕ) where
-  pub next-none : {n : ℕ} → stateIn mem ≡ refused n → _≡_ {A = Called} (record { outcome = refused n; memory = mem; at = at }) (readerNext mem chunk at room)
+  pub next-none : {d : Reason} → stateIn mem ≡ refusedFor d → _≡_ {A = Called} (record { outcome = refusedFor d; memory = mem; at = at }) (readerNext mem chunk at room)
   unfolding readerNext
   next-none e = rw e refl
 
@@ -27,7 +27,7 @@ called e out a b c d = (
 )
 
 module _ (mem : List ℕ) where
-  pub end-none : {n : ℕ} → stateIn mem ≡ refused n → _≡_ {A = Ended} (record { outcome = refused n; memory = mem }) (readerEnd mem)
+  pub end-none : {d : Reason} → stateIn mem ≡ refusedFor d → _≡_ {A = Ended} (record { outcome = refusedFor d; memory = mem }) (readerEnd mem)
   unfolding readerEnd
   end-none e = rw e refl
 
@@ -35,7 +35,7 @@ module _ (mem : List ℕ) where
   unfolding readerEnd
   end-told s c e q = rw (e, q) refl
 
-  pub position-none : {n : ℕ} → stateIn mem ≡ refused n → 0 ≡ readerPosition mem
+  pub position-none : {d : Reason} → stateIn mem ≡ refusedFor d → 0 ≡ readerPosition mem
   unfolding readerPosition
   position-none e = rw e refl
 

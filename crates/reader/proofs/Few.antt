@@ -8,14 +8,14 @@ use Prim.Native.Nat.{ℕ, _+_, _≤_}
 use native.Mathlib.Omega.{arith}
 use lib.ListN.{length, take, drop}
 use lib.Seq.{take-at}
-use Rattle.telegram.specs.Numbers.{Outcome, refused, done}
+use Rattle.telegram.specs.Numbers.{Reason, bare, Outcome, refusedFor, refused, done}
 use Rattle.telegram.specs.Telegram.{reading, Bytes}
 use Rattle.telegram.specs.declared.Telegram.{Telegram}
 use Rattle.telegram.proofs.Outcomes.{never}
 use Rattle.telegram.proofs.Reading.{accepted-count, accepted-size}
 use Rattle.frame.specs.Frame.{Cutting, incomplete, broken, whole, cutting}
 use Rattle.frame.proofs.Fronts.{bytes-append, bytes-take, bytes-drop}
-use Rattle.capture.specs.State.{Standing, going, ended, stopped, State, padded, carrying, resting, carriedIn, isLeft}
+use Rattle.capture.specs.State.{Standing, going, ended, stoppedFor, stopped, State, padded, carrying, resting, carriedIn, isLeft}
 use Rattle.capture.specs.Run.{judged, grown, endedBy}
 use Rattle.capture.specs.Calls.{Reply, telegram, more, over, Given, without, nextJudged, nextCut, nextBy, nexting, Closed, closing}
 use Rattle.capture.specs.Uncut.{Taken, Position}
@@ -48,10 +48,10 @@ module _ (s : State) (n : length (s .bytes) ≡ 12) (y : Bytes (s .bytes)) where
 pub record Fits (at : ℕ) (g : Given) : Type 0 where
   pub size : (t : Telegram) → g .answer ≡ done (telegram t) → t .size ≤ 8
   pub count : (t : Telegram) → g .answer ≡ done (telegram t) → length (take (4 + t .size) (g .bytes)) ≡ 4 + t .size
-  pub stays : (n : ℕ) → g .answer ≡ refused n → at ≡ g .at
+  pub stays : (d : Reason) → g .answer ≡ refusedFor d → at ≡ g .at
 
 -- An answer without a telegram.
-without-fits : (o : Outcome Reply) (at i : ℕ) (s : State) → ((t : Telegram) → o ≡ done (telegram t) → ⊥) → ((n : ℕ) → o ≡ refused n → at ≡ i)
+without-fits : (o : Outcome Reply) (at i : ℕ) (s : State) → ((t : Telegram) → o ≡ done (telegram t) → ⊥) → ((d : Reason) → o ≡ refusedFor d → at ≡ i)
     → Fits at (without o i s)
 without-fits o at i s f r = record { size = λ t e. absurd (f t e); count = λ t e. absurd (f t e); stays = r }
 
@@ -62,8 +62,8 @@ more-fits at i s =
 over-fits : (at : ℕ) (s : State) → Fits at (without (done over) at s)
 over-fits at s = without-fits (done over) at at s (λ t e. let z : _≡_ {A = ℕ} 0 1 = cc in omega arith) (λ n e. refl)
 
-refused-fits : (n at : ℕ) (s : State) → Fits at (without (refused n) at s)
-refused-fits n at s = without-fits (refused n) at at s (λ t e. never e) (λ m e. refl)
+refused-fits : (d : Reason) (at : ℕ) (s : State) → Fits at (without (refusedFor d) at s)
+refused-fits d at s = without-fits (refusedFor d) at at s (λ t e. never e) (λ m e. refl)
 
 same : {u t : Telegram} → _≡_ {A = Outcome Reply} (done (telegram u)) (done (telegram t)) → u ≡ t
 same e = cc
@@ -78,11 +78,11 @@ judged-fits (done u) c k s at y e =
           (ap length (take-at c _ (4 + u .size) n) ∙ n);
       stays = λ m q. absurd (never (sym q));
     }
-judged-fits (refused n) c k s at y e = refused-fits n at (resting (stopped n) (s .position))
+judged-fits (refusedFor d) c k s at y e = refused-fits d at (resting (stoppedFor d) (s .position))
 
 cut-fits : (k : Cutting) (c : List ℕ) (m : ℕ) (s : State) (at : ℕ) → Bytes c → Fits at (nextCut k c m s at)
 cut-fits incomplete c m s at y = more-fits at (at + m) (carrying c (s .position))
-cut-fits (broken n) c m s at y = refused-fits n at (resting (stopped n) (s .position))
+cut-fits (broken n) c m s at y = refused-fits (bare n) at (resting (stopped n) (s .position))
 cut-fits (whole k) c m s at y = judged-fits (reading (take k c)) (take k c) k s at (bytes-take k c y) refl
 
 by-fits : (k : Standing) (l : List ℕ) (s : State) (at : ℕ) → Bytes (s .bytes) → Bytes l → Fits at (nextBy k l s at)
@@ -90,11 +90,11 @@ by-fits going l s at y z =
     let w = carriedIn s ++ l in
     cut-fits (cutting w) w (length l) s at (bytes-append (carriedIn s) l (bytes-take (s .count) (s .bytes) y) z)
 by-fits ended l s at y z = over-fits at s
-by-fits (stopped n) l s at y z = refused-fits n at s
+by-fits (stoppedFor d) l s at y z = refused-fits d at s
 
 next-fits-by : (b : Bool) (c : List ℕ) (s : State) (at : ℕ) → isLeft s ≡ b → Bytes (s .bytes) → Bytes c → Fits at (nexting c s at)
 next-fits-by true c s at e y z = subst (Fits at) (next-by c s at e (s .standing) refl) (by-fits (s .standing) (drop at c) s at y (bytes-drop at c z))
-next-fits-by false c s at e y z = subst (Fits at) (next-not c s at e) (refused-fits 11 at s)
+next-fits-by false c s at e y z = subst (Fits at) (next-not c s at e) (refused-fits (bare 11) at s)
 
 pub next-fits : (c : List ℕ) (s : State) (at : ℕ) → Bytes (s .bytes) → Bytes c → Fits at (nexting c s at)
 next-fits c s at = next-fits-by (isLeft s) c s at refl
@@ -105,7 +105,7 @@ Waits k s g = g .answer ≡ done more → (k ≡ going) × (g .state .standing �
 
 judged-waits : (o : Outcome Telegram) (c : List ℕ) (k : ℕ) (s : State) (at : ℕ) → Waits going s (nextJudged o c k s at)
 judged-waits (done t) c k s at e = let z : _≡_ {A = ℕ} 0 1 = cc in absurd (omega arith)
-judged-waits (refused n) c k s at e = absurd (never e)
+judged-waits (refusedFor d) c k s at e = absurd (never e)
 
 cut-waits : (k : Cutting) (c : List ℕ) (m : ℕ) (s : State) (at : ℕ) → Waits going s (nextCut k c m s at)
 cut-waits incomplete c m s at e = (refl, refl, refl)
@@ -115,7 +115,7 @@ cut-waits (whole k) c m s at e = judged-waits (reading (take k c)) (take k c) k 
 by-waits : (k : Standing) (l : List ℕ) (s : State) (at : ℕ) → Waits k s (nextBy k l s at)
 by-waits going l s at e = cut-waits (cutting (carriedIn s ++ l)) (carriedIn s ++ l) (length l) s at e
 by-waits ended l s at e = let z : _≡_ {A = ℕ} 0 1 = cc in absurd (omega arith)
-by-waits (stopped n) l s at e = absurd (never e)
+by-waits (stoppedFor d) l s at e = absurd (never e)
 
 next-waits-by : (b : Bool) (c : List ℕ) (s : State) (at : ℕ) → isLeft s ≡ b → Waits (s .standing) s (nexting c s at)
 next-waits-by true c s at e = subst (Waits (s .standing) s) (next-by c s at e (s .standing) refl) (by-waits (s .standing) (drop at c) s at)
@@ -127,7 +127,7 @@ next-waits c s at = next-waits-by (isLeft s) c s at refl
 -- Positions stay below 2^64.
 judged-position : (o : Outcome Telegram) (k p : ℕ) → Position p → Position (judged o k p .position)
 judged-position (done t) k p h = omega arith
-judged-position (refused n) k p h = h
+judged-position (refusedFor d) k p h = h
 
 grown-position : (k : Cutting) (w : List ℕ) (p : ℕ) → Position p → Position (grown k w p .position)
 grown-position incomplete w p h = h
@@ -139,12 +139,12 @@ by-position going l s at h =
     let w = carriedIn s ++ l in
     rw (next-state (cutting w) w (length l) s at) (grown-position (cutting w) w (s .position) h)
 by-position ended l s at h = h
-by-position (stopped n) l s at h = h
+by-position (stoppedFor d) l s at h = h
 
 ended-position : (k : Standing) (s : State) → Position (s .position) → Position (endedBy k s .position)
 ended-position going s h = h
 ended-position ended s h = h
-ended-position (stopped n) s h = h
+ended-position (stoppedFor d) s h = h
 
 module _ (s : State) (t : Taken s) (h : Position (s .position)) where
   pub next-position : (c : List ℕ) (at : ℕ) → Position (nexting c s at .state .position)

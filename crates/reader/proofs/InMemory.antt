@@ -8,10 +8,10 @@ use native.Mathlib.Omega.{arith}
 use borrow.Author.Tests.{le-ltb, ne-eqb}
 use lib.Dec.{eqb, ltb}
 use lib.ListN.{length, drop}
-use Rattle.telegram.specs.Numbers.{Outcome, refused, done}
+use Rattle.telegram.specs.Numbers.{Outcome, refusedFor, done}
 use Rattle.telegram.specs.Telegram.{Bytes}
 use Rattle.telegram.proofs.Outcomes.{fit-done}
-use Rattle.capture.specs.State.{Standing, going, ended, stopped, State}
+use Rattle.capture.specs.State.{Standing, going, ended, stoppedFor, State}
 use Rattle.capture.specs.Calls.{Reply, telegram, more, over, Given, without, answerOf, nexting, closed, closing, toldBy, told}
 use Rattle.capture.specs.Uncut.{Taken, Position, TakenIsLeft, ElevenExact, NeverEleven, LeavesTaken, Final, EndAndRefusalRepeat}
 use Rattle.capture.proofs.Taken.{leaves-taken}
@@ -75,11 +75,11 @@ module _ (s : State) (mem : List ℕ) (k : TakenIn s mem) where
     short over e = omega arith
 
     next-as : (o : Outcome Reply) → g .answer ≡ o → NextInMemory mem g (answering o g room mem at)
-    next-as (refused n) e =
-        let q = kept-refused (g .state) left below n (λ z. no-eleven .next c at y (e ∙ ap refused z)) in
+    next-as (refusedFor d) e =
+        let q = kept-refused (g .state) left below (d .number) (no-eleven .next c at d y e) in
         record {
           outcome = sym (ap (λ (o : Outcome Reply). replied o (λ (r : Reply). written r (g .bytes))) e);
-          at = fits .stays n e;
+          at = fits .stays d e;
           state = q .0;
           behind = q .1;
         }
@@ -95,7 +95,7 @@ module _ (s : State) (mem : List ℕ) (k : TakenIn s mem) where
 
     -- So it writes the telegram that the call gives.
     told-as : (o : Outcome Reply) → g .answer ≡ o → toldIn (replied o (λ (r : Reply). written r (g .bytes))) ≡ toldBy o (g .bytes)
-    told-as (refused n) e = refl
+    told-as (refusedFor d) e = refl
     told-as (done more) e = refl
     told-as (done over) e = refl
     told-as (done (telegram t)) e = one-told (written (telegram t) (g .bytes)) (omega (arith, fits .count t e))
@@ -103,9 +103,9 @@ module _ (s : State) (mem : List ℕ) (k : TakenIn s mem) where
   -- The end.
   end-as : (o : Outcome Reply) → closing s .answer ≡ o → EndInMemory mem (closing s) (endAnswering o (closing s .state) mem)
   unfolding LeavesTaken
-  end-as (refused n) e =
+  end-as (refusedFor d) e =
       let t = held-taken s mem k in
-      let q = kept-refused (closing s .state) (leaves-taken s t .closing) (end-position s t (held-position s mem k)) n (λ z. no-eleven .closing (e ∙ ap refused z)) in
+      let q = kept-refused (closing s .state) (leaves-taken s t .closing) (end-position s t (held-position s mem k)) (d .number) (no-eleven .closing d e) in
       record { outcome = sym (ap silent e); state = q .0; behind = q .1 }
   end-as (done r) e =
       let t = held-taken s mem k in
@@ -144,13 +144,13 @@ module _ (s : State) (mem : List ℕ) (stays : holding s mem ≡ mem) where
   repeat-next ended at room f =
       let l = le-ltb room 0 (omega arith) in
       λ i. record { outcome = fit-done room [] (omega arith) i; memory = either (ltb room 0) i; at = ap (λ (b : Bool). cond b at at) l i }
-  repeat-next (stopped n) at room f = λ i. record { outcome = refused n; memory = either (eqb n 11) i; at = at }
+  repeat-next (stoppedFor d) at room f = λ i. record { outcome = refusedFor d; memory = either (eqb (d .number) 11) i; at = at }
 
   repeat-end : (k : Standing) → Final k
       → _≡_ {A = Ended} (endAnswering (answerOf k) s mem) (record { outcome = silent (answerOf k); memory = mem })
   repeat-end going f = absurd f
   repeat-end ended f = λ i. record { outcome = done []; memory = stays i }
-  repeat-end (stopped n) f = λ i. record { outcome = refused n; memory = either (eqb n 11) i }
+  repeat-end (stoppedFor d) f = λ i. record { outcome = refusedFor d; memory = either (eqb (d .number) 11) i }
 
 pub end-and-refusal-repeat-in-memory : EndAndRefusalRepeatInMemory
 unfolding EndAndRefusalRepeatInMemory EndAndRefusalRepeat HeldStays

@@ -7,7 +7,7 @@ use native.Mathlib.Omega.{arith}
 use borrow.Author.Tests.{lt-ltb, le-ltb, le-leb, lt-leb, ltb-false, ne-eqb}
 use lib.Dec.{leb, ltb}
 use lib.ListN.{length, getD}
-use Rattle.telegram.specs.Numbers.{Outcome, refused, done, refuse, after}
+use Rattle.telegram.specs.Numbers.{Outcome, refused, done, after}
 use Rattle.telegram.proofs.Outcomes.{passed}
 use Rattle.capture.specs.State.{Standing, State}
 use Rattle.reader.specs.Layout.{standingIn, countIn, positionIn, carriedBytes, stateIn}

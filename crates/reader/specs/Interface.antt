@@ -5,14 +5,14 @@ use mathlib.Core.Bool.{cond}
 use mathlib.Core.List.{List, []}
 use lib.Dec.{eqb, ltb}
 use lib.ListN.{length, take}
-use Rattle.telegram.specs.Numbers.{Outcome, refused, done, counted, fitted}
+use Rattle.telegram.specs.Numbers.{Outcome, refusedFor, done, counted, fitted}
 use Rattle.capture.specs.State.{State, isLeft}
 use Rattle.capture.specs.Calls.{Reply, telegram, more, over, Given, nexting, closing}
 use Rattle.reader.specs.Layout.{stateIn, holding}
 
 -- Number and count in one: number + 256 × count. The number is 0 when done, the count 0 on refusal.
 abbrev pub packed : Outcome ℕ → ℕ
-packed (refused n) = n
+packed (refusedFor e) = e .number
 packed (done count) = count * 256
 
 -- What a function returns: its number and the count of the bytes that it wrote.
@@ -37,7 +37,7 @@ keptBy n s mem = cond (eqb n 11) mem (holding s mem)
 
 -- A refusal leaves the index. A reply whose bytes do not fit the room is 9, which leaves both; else both move.
 abbrev pub answering : Outcome Reply → Given → ℕ → List ℕ → ℕ → Called
-answering (refused n) g room mem at = record { outcome = refused n; memory = keptBy n (g .state) mem; at = at }
+answering (refusedFor e) g room mem at = record { outcome = refusedFor e; memory = keptBy (e .number) (g .state) mem; at = at }
 answering (done r) g room mem at =
     record {
       outcome = fitted room (written r (g .bytes));
@@ -47,7 +47,7 @@ answering (done r) g room mem at =
 
 -- `osp_reader_next`, of the state's memory, the chunk, the index and the length of the room: 11, the reader's own, then 9.
 abbrev pub nextIn : Outcome State → List ℕ → List ℕ → ℕ → ℕ → Called
-nextIn (refused n) mem chunk at room = record { outcome = refused n; memory = mem; at = at }
+nextIn (refusedFor e) mem chunk at room = record { outcome = refusedFor e; memory = mem; at = at }
 nextIn (done s) mem chunk at room = answering (nexting chunk s at .answer) (nexting chunk s at) room mem at
 
 unfoldable pub readerNext : List ℕ → List ℕ → ℕ → ℕ → Called
@@ -60,12 +60,12 @@ pub record Ended : Type 0 where
 
 -- Nothing is written at the end.
 abbrev pub endAnswering : Outcome Reply → State → List ℕ → Ended
-endAnswering (refused n) s mem = record { outcome = refused n; memory = keptBy n s mem }
+endAnswering (refusedFor e) s mem = record { outcome = refusedFor e; memory = keptBy (e .number) s mem }
 endAnswering (done r) s mem = record { outcome = done []; memory = holding s mem }
 
 -- `osp_reader_end`, of the state's memory: 11, then the reader's own.
 abbrev pub endIn : Outcome State → List ℕ → Ended
-endIn (refused n) mem = record { outcome = refused n; memory = mem }
+endIn (refusedFor e) mem = record { outcome = refusedFor e; memory = mem }
 endIn (done s) mem = endAnswering (closing s .answer) (closing s .state) mem
 
 unfoldable pub readerEnd : List ℕ → Ended
@@ -73,7 +73,7 @@ readerEnd mem = endIn (stateIn mem) mem
 
 -- `osp_reader_position`, of the state's memory: 0 where the other functions give 11.
 abbrev pub positionBy : Outcome State → ℕ
-positionBy (refused n) = 0
+positionBy (refusedFor e) = 0
 positionBy (done s) = cond (isLeft s) (s .position) 0
 
 unfoldable pub readerPosition : List ℕ → ℕ

@@ -6,7 +6,7 @@ use mathlib.Core.Path.{_≡_}
 use mathlib.Core.Bool.{true}
 use mathlib.Core.List.{List, [], _∷_, _++_}
 use lib.ListN.{length, drop, replicate}
-use Rattle.telegram.specs.Numbers.{Outcome, refused, done, after}
+use Rattle.telegram.specs.Numbers.{Outcome, refusedFor, done, after}
 use Rattle.telegram.specs.Telegram.{Bytes}
 use Rattle.capture.specs.State.{State, carrying, isLeft}
 use Rattle.capture.specs.Run.{run, telegramsIn}
@@ -75,7 +75,7 @@ AsOnTheState = (s : State) (mem : List ℕ) → TakenIn s mem → Functions s me
 
 -- The telegram that a call wrote, if it wrote one: no bytes are none, and a refusal writes nothing.
 abbrev pub toldIn : Outcome (List ℕ) → List (List ℕ)
-toldIn (refused n) = []
+toldIn (refusedFor e) = []
 toldIn (done []) = []
 toldIn (done (b ∷ t)) = (b ∷ t) ∷ []
 

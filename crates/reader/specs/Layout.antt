@@ -5,8 +5,8 @@ use mathlib.Core.Bool.{cond, not, _&&_}
 use mathlib.Core.List.{List, [], _∷_, _++_}
 use lib.Dec.{eqb, leb, ltb}
 use lib.ListN.{length, getD, take, drop}
-use Rattle.telegram.specs.Numbers.{Outcome, refused, done, refuse, after, front}
-use Rattle.capture.specs.State.{Standing, going, ended, stopped, standingOf, State, stateOf}
+use Rattle.telegram.specs.Numbers.{Outcome, done, refuse, after, front}
+use Rattle.capture.specs.State.{Standing, going, ended, stoppedFor, stopped, standingOf, State, stateOf}
 use Rattle.reader.specs.declared.kept.Begun.{Begun}
 use Rattle.reader.specs.declared.Held.{Held}
 
@@ -27,7 +27,7 @@ standingIn phase value =
 abbrev pub countIn : Standing → ℕ → ℕ
 countIn going value = value
 countIn ended value = value
-countIn (stopped n) value = 0
+countIn (stoppedFor e) value = 0
 
 -- A number in bytes, high byte first; n stands before them.
 abbrev pub numberIn : ℕ → List ℕ → ℕ
@@ -54,12 +54,12 @@ stateIn mem =
 abbrev pub standingByte : Standing → ℕ
 standingByte going = 0
 standingByte ended = 1
-standingByte (stopped n) = 2
+standingByte (stoppedFor e) = 2
 
 abbrev pub valueByte : Standing → ℕ → ℕ
 valueByte going count = count
 valueByte ended count = count
-valueByte (stopped n) count = n
+valueByte (stoppedFor e) count = e .number
 
 -- The position, high byte first.
 abbrev pub positionBytes : ℕ → List ℕ

@@ -8,7 +8,7 @@ use mathlib.Core.Bool.{Bool, true, false, true≢false, false≢true}
 use mathlib.Core.List.{List, [], _∷_}
 use lib.Dec.{eqb}
 use borrow.Author.Tests.{eqb-true, eqb-false}
-use Rattle.telegram.specs.Numbers.{Outcome, refused, done}
+use Rattle.telegram.specs.Numbers.{Reason, bare, Outcome, refusedFor, done}
 use Rattle.telegram.specs.declared.Address.{Address}
 use Rattle.table.specs.declared.Cast.the-variants.{One}
 use Rattle.command.specs.Commands.{Sent, dissecting}
@@ -31,8 +31,8 @@ record Seen (xs : List Lamp) (p : ℕ) (x : Lamp) (mine : Bool) (f : List Lamp �
 -- Of lamps numbered from a.
 module _ (d : Defaults) (a : ℕ) (xs : List Lamp) (p : ℕ) (x : Lamp) (hn : Numbered a 0 xs) (hp : lampIn xs p ≡ done x) where
   -- A refusal is seen by none.
-  seen-refused : (mine : Bool) (n : ℕ) → Seen xs p x mine (λ (ys : List Lamp). record { lamps = ys; outcome = refused n })
-  seen-refused mine n = record { lamp = x; together = hp; alone = λ e. refl; other = λ e. refl }
+  seen-refused : (mine : Bool) (r : Reason) → Seen xs p x mine (λ (ys : List Lamp). record { lamps = ys; outcome = refusedFor r })
+  seen-refused mine r = record { lamp = x; together = hp; alone = λ e. refl; other = λ e. refl }
 
   -- The walk to one address is seen by the lamp that got it.
   seen-walk : (t : Sent) (b : Address) → t .cast ≡ One b → b .0 ≢ noAddress .0
@@ -57,8 +57,8 @@ module _ (d : Defaults) (a : ℕ) (xs : List Lamp) (p : ℕ) (x : Lamp) (hn : Nu
       → Seen xs p x (own (a + p) (dissecting s)) (λ (ys : List Lamp). delivering d ys (dissecting s) room)
   seen s room =
       by-course d s room (λ (o : Outcome Sent) (f : List Lamp → Walked). Seen xs p x (own (a + p) o) f)
-      (λ o e. seen-refused (own (a + p) o) 9)
-      (λ n e. seen-refused false n)
+      (λ o e. seen-refused (own (a + p) o) (bare 9))
+      (λ r e. seen-refused false r)
       (λ t b e c real. seen-walk t b c real)
       (dissecting s) refl
 

@@ -9,7 +9,7 @@ use mathlib.Core.List.{List}
 use lib.Dec.{ltb}
 use lib.ListN.{length}
 use borrow.Author.Tests.{ne-eqb, ltb-false}
-use Rattle.telegram.specs.Numbers.{Outcome, refused, done, after}
+use Rattle.telegram.specs.Numbers.{Reason, Outcome, refusedFor, refused, done, after}
 use Rattle.telegram.specs.declared.Address.{Address}
 use Rattle.telegram.proofs.Outcomes.{never, done-one, passed, went-on}
 use Rattle.table.specs.declared.Cast.{Cast}
@@ -63,9 +63,9 @@ module _ (d : Defaults) (xs : List Lamp) (room : ℕ) (t : Sent) where
 pub accepted-sent : (d : Defaults) (xs : List Lamp) (o : Outcome Sent) (room : ℕ) {answer : List ℕ}
     → delivering d xs o room .outcome ≡ done answer → (t : Sent) × (o ≡ done t)
 unfolding delivering responding
-accepted-sent d xs (refused n) room {answer} e = absurd (go (roomSmall room) e)
+accepted-sent d xs (refusedFor r) room {answer} e = absurd (go (roomSmall room) e)
   where
-    go : (b : Bool) → cond b (record { lamps = xs; outcome = refused 9 }) (taken d xs (refused n)) .outcome ≡ done answer → ⊥
+    go : (b : Bool) → cond b (record { lamps = xs; outcome = refused 9 }) (taken d xs (refusedFor r)) .outcome ≡ done answer → ⊥
     go true k = never k
     go false k = never k
 accepted-sent d xs (done t) room e = (t, refl)
@@ -85,26 +85,26 @@ delivered d xs t room {answer} e = go (roomSmall room) (permitting xs t) refl re
     go : (small : Bool) (r : Outcome Sent) → roomSmall room ≡ small → permitting xs t ≡ r
         → cond small (record { lamps = xs; outcome = refused 9 }) (taken d xs r) .outcome ≡ done answer → Delivered d xs t room
     go true r es er k = absurd (never k)
-    go false (refused n) es er k = absurd (never k)
+    go false (refusedFor x) es er k = absurd (never k)
     go false (done u) es er k =
         let h : permitting xs t ≡ done t = er ∙ sym (permitted xs (done t) u er .0) in
         record { enough = ltb-false room 12 es; allowed = h; walked = permitted-walks d xs room t es h }
 
--- The course of a delivery that a list may hold: its room is small, or it is refused with its number, or it walks to one address,
+-- The course of a delivery that a list may hold: its room is small, or it is refused for its reason, or it walks to one address,
 -- which is not 3FF. What holds of each holds of the delivery.
 module _ (d : Defaults) (s : List ℕ) (room : ℕ) (P : Outcome Sent → (List Lamp → Walked) → Type 0)
     (small : (o : Outcome Sent) → roomSmall room ≡ true → P o (λ (xs : List Lamp). record { lamps = xs; outcome = refused 9 }))
-    (refusal : (n : ℕ) → roomSmall room ≡ false → P (refused n) (λ (xs : List Lamp). record { lamps = xs; outcome = refused n }))
+    (refusal : (r : Reason) → roomSmall room ≡ false → P (refusedFor r) (λ (xs : List Lamp). record { lamps = xs; outcome = refusedFor r }))
     (walks : (t : Sent) (b : Address) → roomSmall room ≡ false → t .cast ≡ One b → b .0 ≢ noAddress .0
     → P (done t) (λ (xs : List Lamp). walk (reaching d (t .message) (One b)) 0 xs)) where
   pub by-course : (o : Outcome Sent) → dissecting s ≡ o → Listed o → P o (λ (xs : List Lamp). delivering d xs o room)
   unfolding delivering responding
-  by-course (refused n) e h = go (roomSmall room) refl
+  by-course (refusedFor r) e h = go (roomSmall room) refl
     where
       go : (b : Bool) → roomSmall room ≡ b
-          → P (refused n) (λ (xs : List Lamp). cond b (record { lamps = xs; outcome = refused 9 }) (taken d xs (refused n)))
-      go true k = small (refused n) k
-      go false k = rw (ne-eqb n 5 h) (refusal n k)
+          → P (refusedFor r) (λ (xs : List Lamp). cond b (record { lamps = xs; outcome = refused 9 }) (taken d xs (refusedFor r)))
+      go true k = small (refusedFor r) k
+      go false k = rw (ne-eqb (r .number) 5 h) (refusal r k)
   by-course (done t) e h =
       let plain : isInit (t .message .number) ≡ false = h .0 in
       simp plain-walks (go (roomSmall room) refl (t .cast) refl (h .1))

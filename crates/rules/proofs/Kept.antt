@@ -8,7 +8,7 @@ use mathlib.Core.List.{List, [], _∷_}
 use lib.Dec.{eqb, ltb}
 use lib.ListN.{length, set, replicate, length-set, length-replicate}
 use borrow.Author.Tests.{le-leb, ne-eqb}
-use Rattle.telegram.specs.Numbers.{Outcome, refused, done, after}
+use Rattle.telegram.specs.Numbers.{Outcome, refusedFor, refused, done, after}
 use Rattle.telegram.specs.declared.Address.{Address}
 use Rattle.telegram.proofs.Outcomes.{done-one, passed, went-on}
 use Rattle.table.specs.declared.Cast.{Cast}
@@ -87,7 +87,7 @@ held-first (x ∷ xs) = record { count = refl; right = λ h. h }
 -- A refusal leaves them so, and the walk of what was permitted of a dissected telegram.
 held-taken : (d : Defaults) (xs : List Lamp) (s : List ℕ) (r : Outcome Sent) → after (dissecting s) (permitting xs) ≡ r
     → Held xs (taken d xs r .lamps)
-held-taken d xs s (refused n) e = go (eqb n 5)
+held-taken d xs s (refusedFor r) e = go (eqb (r .number) 5)
   where
     go : (b : Bool) → Held xs (cond b (firstCE xs) xs)
     go true = held-first xs

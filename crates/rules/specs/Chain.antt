@@ -5,7 +5,7 @@ use mathlib.Core.Bool.{Bool, true, false, cond, not, _&&_, _||_}
 use mathlib.Core.List.{List, [], _∷_}
 use lib.Dec.{eqb, leb, ltb}
 use lib.ListN.{length, set, replicate}
-use Rattle.telegram.specs.Numbers.{Outcome, refused, done, refuse, after}
+use Rattle.telegram.specs.Numbers.{Outcome, refusedFor, refused, done, refuse, after}
 use Rattle.telegram.specs.Telegram.{telegramOf}
 use Rattle.table.specs.declared.Cast.{Cast}
 use Rattle.table.specs.declared.Cast.the-variants.{Everyone, One, Group}
@@ -127,7 +127,7 @@ firstCE (x ∷ xs) = withCE x ∷ xs
 
 -- A refusal changes nothing; the one exception is 5, which sets CE on the lamp at place 0. What is accepted walks along the lamps.
 abbrev pub taken : Defaults → List Lamp → Outcome Sent → Walked
-taken d xs (refused n) = record { lamps = cond (eqb n 5) (firstCE xs) xs; outcome = refused n }
+taken d xs (refusedFor e) = record { lamps = cond (eqb (e .number) 5) (firstCE xs) xs; outcome = refusedFor e }
 taken d xs (done t) = walk (visiting d (length xs) t) 0 xs
 
 -- The lamps and what the dissector gave: 1 to 8, then 7 at 000 or 12.

@@ -7,7 +7,7 @@ use mathlib.Core.Bool.{Bool, true, false, cond}
 use mathlib.Core.List.{List, [], _∷_, _++_}
 use lib.Dec.{eqb}
 use lib.ListN.{length}
-use Rattle.telegram.specs.Numbers.{Outcome, refused, done, refuse, after}
+use Rattle.telegram.specs.Numbers.{Outcome, refusedFor, done, refuse, after}
 use Rattle.table.specs.declared.Cast.{Cast}
 use Rattle.table.specs.declared.Cast.the-variants.{Everyone, One, Group}
 use Rattle.command.specs.Commands.{Sent, dissecting}
@@ -41,7 +41,7 @@ OneLamp (Group g) = ⊥
 
 -- The list may hold whatever the dissector accepts for one lamp and which is no init, and what it refuses with a number other than 5.
 abbrev pub Listed : Outcome Sent → Type 0
-Listed (refused n) = n ≢ 5
+Listed (refusedFor e) = e .number ≢ 5
 Listed (done t) = (isInit (t .message .number) ≡ false) × OneLamp (t .cast)
 
 -- Each delivery of a list is such a one. The list may be empty.
@@ -57,7 +57,7 @@ castFor b (Group g) = false
 
 -- A lamp's own telegrams are those accepted by the dissector for the address b which it got at the start.
 abbrev pub own : ℕ → Outcome Sent → Bool
-own b (refused n) = false
+own b (refusedFor e) = false
 own b (done t) = castFor b (t .cast)
 
 -- Which deliveries of a list are its own.
@@ -150,7 +150,7 @@ NobodysCast n a (Group g) = ⊥
 
 -- .. of what the dissector gave.
 abbrev pub Nobodys : ℕ → ℕ → Outcome Sent → Type 0
-Nobodys n a (refused r) = Unit {0}
+Nobodys n a (refusedFor e) = Unit {0}
 Nobodys n a (done t) = NobodysCast n a (t .cast)
 
 -- It gives 9 when its room is under 12 bytes, else the refusal, else 0 without an answer.

@@ -9,7 +9,7 @@ use lib.Dec.{T, leb, ltb, eqb, eqb→eq}
 use lib.ListN.{length, take, drop, length-take, length-drop}
 use borrow.Author.Tests.{le-leb, lt-leb, ne-eqb, eqb-true, ltb-true, ltb-false}
 use Rattle.checksum.proofs.Below.{T-true, below, at}
-use Rattle.telegram.specs.Numbers.{Outcome, refused, done, after}
+use Rattle.telegram.specs.Numbers.{Outcome, refusedFor, refused, done, after}
 use Rattle.telegram.specs.Telegram.{listed}
 use Rattle.telegram.proofs.Outcomes.{never, done-one}
 use Rattle.table.specs.Table.{row, rowOf, payloadFits, fitsRow, sizeRight, answerSizeOf}
@@ -47,14 +47,22 @@ row-24-26 n l h =
 abbrev pub keys : List ℕ
 keys = 0x6F ∷ 0x6D ∷ 0x6B ∷ 0x4F ∷ 0x4E ∷ 0x4D ∷ 0x4C ∷ 0x4B ∷ 0x4A ∷ 0x48 ∷ 0x42 ∷ 0x40 ∷ 0x2D ∷ 0x0D ∷ 0x0C ∷ 0x07 ∷ []
 
--- The table has no row for a number: 6.
+-- The table has no row for a number: 6, which carries nothing.
+abbrev pub bare-six : ℕ → List ℕ → Bool
+bare-six n [] = eqb n 6
+bare-six n (x ∷ l) = false
+
+six-is : (n : ℕ) (l : List ℕ) → T (bare-six n l) → _≡_ {A = Outcome Row} (refused 6) (refusedFor (record { number = n; carries = l }))
+six-is n [] t = ap refused (sym (eqb→eq n 6 t))
+six-is n (x ∷ l) t = absurd t
+
 unfoldable pub absent : Outcome Row → Bool
-absent (refused n) = eqb n 6
+absent (refusedFor d) = bare-six (d .number) (d .carries)
 absent (done r) = false
 
 pub absent-is : (o : Outcome Row) → T (absent o) → refused 6 ≡ o
 unfolding absent
-absent-is (refused n) t = ap refused (sym (eqb→eq n 6 t))
+absent-is (refusedFor d) t = six-is (d .number) (d .carries) t
 absent-is (done r) t = absurd t
 
 pub T-or : (a b : Bool) → a ≡ false → T (a || b) → T b
@@ -110,7 +118,7 @@ row-high n h =
 
 -- The table's size for an answer, where it has one, is one that a telegram may carry.
 carried : Outcome ℕ → Bool
-carried (refused n) = true
+carried (refusedFor d) = true
 carried (done k) = listed k
 
 -- A number for whose answer the table has a size is at most 6F, and a telegram may carry that many bytes: one test at each number.
@@ -135,7 +143,7 @@ right-size {n} {k} {x} j e s h =
 
 -- A size is right for a number only in a row.
 in-row : (o : Outcome Row) (x : ℕ) → fitsRow o x ≡ true → (r : Row) × ((o ≡ done r) × (payloadFits r x ≡ true))
-in-row (refused n) x h = absurd (let z : _≡_ {A = ℕ} 0 1 = cc in omega arith)
+in-row (refusedFor d) x h = absurd (let z : _≡_ {A = ℕ} 0 1 = cc in omega arith)
 in-row (done r) x h = (r, (refl, h))
 
 pub right-row : (n x : ℕ) → sizeRight n x ≡ true → (r : Row) × ((rowOf n ≡ done r) × (payloadFits r x ≡ true))

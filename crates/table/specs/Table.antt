@@ -4,7 +4,7 @@
 use Prim.Native.Nat.{ℕ, _-_}
 use mathlib.Core.Bool.{Bool, true, false, cond, _&&_, _||_}
 use lib.Dec.{eqb, leb}
-use Rattle.telegram.specs.Numbers.{Outcome, refused, done, after}
+use Rattle.telegram.specs.Numbers.{Outcome, refusedFor, refused, done, after}
 use Rattle.table.specs.declared.Casts.{Casts}
 use Rattle.table.specs.declared.Casts.the-variants.{All, Single, First}
 use Rattle.table.specs.declared.Row.{Row}
@@ -68,7 +68,7 @@ castListed First (Group g) = false
 -- The table lists the cast for the command.
 abbrev pub listsCast : Outcome Row → Cast → Bool
 listsCast (done r) cast = castListed (r .casts) cast
-listsCast (refused n) cast = false
+listsCast (refusedFor e) cast = false
 
 -- The payload size is right for the command.
 abbrev pub payloadFits : Row → ℕ → Bool
@@ -77,7 +77,7 @@ payloadFits r size = eqb size (r .payload)
 -- A row that the table has for a number takes the payload size; a number with no row takes none.
 abbrev pub fitsRow : Outcome Row → ℕ → Bool
 fitsRow (done r) size = payloadFits r size
-fitsRow (refused n) size = false
+fitsRow (refusedFor e) size = false
 
 -- The payload size is right for a number: the table has a row for it, whose command has a payload of that many bytes.
 abbrev pub sizeRight : ℕ → ℕ → Bool

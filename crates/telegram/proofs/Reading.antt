@@ -9,7 +9,7 @@ use native.Mathlib.Omega.{arith}
 use borrow.Author.Tests.{lt-ltb, le-ltb, eq-eqb, ne-eqb, ltb-false, eqb-true, eqb-false, not-false}
 use lib.Dec.{eqb}
 use lib.ListN.{length}
-use Rattle.telegram.specs.Numbers.{refused, done, numberOf}
+use Rattle.telegram.specs.Numbers.{Reason, refusedFor, refused, done, reasonOf}
 use Rattle.telegram.specs.Telegram.{readAs, refusalIn, preambleIn, indexIn, sizeOf, telegramIn, framing, reading, checking, checksumRight, Bytes}
 use Rattle.telegram.specs.declared.Telegram.{Telegram}
 use Rattle.telegram.specs.declared.Refusal.{Refusal}
@@ -65,7 +65,7 @@ framed s t e =
     }
 
 module _ (s : List ℕ) where
-  pub read-framed : {n : ℕ} → framing s ≡ refused n → refused n ≡ reading s
+  pub read-framed : {d : Reason} → framing s ≡ refusedFor d → refusedFor d ≡ reading s
   unfolding reading
   read-framed e = simp e
 
@@ -101,7 +101,7 @@ accepted-size s t y e =
     subst (λ (u : Telegram). u .size ≤ 8) (framed s t (accepted s t e .0) .fields)
     (size-le (eqb (indexIn s) 7) (indexIn s) refl (omega (arith, y 1, y 2)))
 
--- Where the reader's answer is a refusal, what `refusal_of` gives of it has the number of the outcome.
+-- Where the reader's answer is a refusal, what `refusal_of` gives of it has the reason of the outcome.
 pub refusal-is : (s : List ℕ) (r : Read) {e x : Refusal} → readAs r ≡ reading s → r ≡ Refused e → x ≡ refusalIn r
-    → reading s ≡ refused (numberOf x)
-refusal-is s r a k q = sym a ∙ ap readAs k ∙ sym (ap (λ (y : Refusal). refused (numberOf y)) (q ∙ ap refusalIn k))
+    → reading s ≡ refusedFor (reasonOf x)
+refusal-is s r a k q = sym a ∙ ap readAs k ∙ sym (ap (λ (y : Refusal). refusedFor (reasonOf y)) (q ∙ ap refusalIn k))

@@ -2,7 +2,7 @@
 -- Assumes nothing.
 use Prim.Native.Nat.{ℕ}
 use mathlib.Core.Bool.{Bool, true, false}
-use mathlib.Core.List.{List, _++_}
+use mathlib.Core.List.{List, [], _++_}
 use lib.Dec.{ltb}
 use lib.ListN.{length, drop}
 use Rattle.telegram.specs.declared.Refusal.{Refusal}
@@ -10,19 +10,36 @@ use Rattle.telegram.specs.declared.Refusal.the-variants.{TooShort, Pream
 use Rattle.telegram.specs.declared.Built.{Built}
 use Rattle.telegram.specs.declared.Built.the-variants.{Done, Refused}
 
--- What a call gives back: a refusal with its number of the table, or done (number 0) with a value.
+-- Why a call refuses: the number of the table, and what the refusal carries.
+pub record Reason : Type 0 where
+  pub number : ℕ
+  pub carries : List ℕ
+
+-- A number that carries nothing.
+abbrev pub bare : ℕ → Reason
+bare n = record { number = n; carries = [] }
+
+-- What a call gives back: a refusal with its reason, or done (number 0) with a value.
 pub data Outcome (A : Type 0) : Type 0 where
-  refused : ℕ → Outcome A
+  refusedFor : Reason → Outcome A
   done : A → Outcome A
 
--- One line of an order of tests: where the test holds the number is given back, else the rest decides.
-abbrev pub refuse : {A : Type 0} → Bool → ℕ → Outcome A → Outcome A
-refuse true n rest = refused n
-refuse false n rest = rest
+-- A refusal that is its number alone.
+abbrev pub refused : {A : Type 0} → ℕ → Outcome A
+refused n = refusedFor (bare n)
 
--- What is refused goes no further; what is done goes on.
+-- One line of an order of tests: where the test holds the call is refused for this reason, else the rest decides.
+abbrev pub refuseFor : {A : Type 0} → Bool → Reason → Outcome A → Outcome A
+refuseFor true e rest = refusedFor e
+refuseFor false e rest = rest
+
+-- The same with a number alone.
+abbrev pub refuse : {A : Type 0} → Bool → ℕ → Outcome A → Outcome A
+refuse b n rest = refuseFor b (bare n) rest
+
+-- What is refused goes no further, and is passed on whole; what is done goes on.
 abbrev pub after : {A B : Type 0} → Outcome A → (A → Outcome B) → Outcome B
-after (refused n) next = refused n
+after (refusedFor e) next = refusedFor e
 after (done a) next = next a
 
 -- The table: the number of each refusal.
@@ -41,14 +58,18 @@ numberOf NoChain = 11
 numberOf InitPastEnd = 12
 numberOf NoLamp = 13
 
--- A builder's answer: the number of its refusal, or done with how many bytes it wrote.
+-- The reason of a refusal: its number, and what it carries.
+abbrev pub reasonOf : Refusal → Reason
+reasonOf e = bare (numberOf e)
+
+-- A builder's answer: its refusal, or done with how many bytes it wrote.
 abbrev pub builtAs : Built → Outcome ℕ
 builtAs (Done n) = done n
-builtAs (Refused e) = refused (numberOf e)
+builtAs (Refused e) = refusedFor (reasonOf e)
 
 -- How many bytes an outcome that is bytes has.
 abbrev pub counted : Outcome (List ℕ) → Outcome ℕ
-counted (refused n) = refused n
+counted (refusedFor e) = refusedFor e
 counted (done s) = done (length s)
 
 -- Room is too small when it is shorter than what would be written: 9.
@@ -61,5 +82,5 @@ front s room = s ++ drop (length s) room
 
 -- The lent room after an outcome that is bytes: a refusal leaves it as it was.
 abbrev pub leaves : Outcome (List ℕ) → List ℕ → List ℕ
-leaves (refused n) room = room
+leaves (refusedFor e) room = room
 leaves (done s) room = front s room

@@ -6,17 +6,17 @@ use mathlib.Core.List.{List, [], _∷_, _++_}
 use lib.Dec.{eqb, ltb, leb}
 use lib.ListN.{length, getD, take, drop}
 use Rattle.checksum.specs.Checksum.{checksumOf}
-use Rattle.telegram.specs.Numbers.{Outcome, refused, done, refuse, after, fitted, numberOf}
+use Rattle.telegram.specs.Numbers.{Outcome, refusedFor, done, refuse, after, fitted, reasonOf}
 use Rattle.telegram.specs.declared.Telegram.{Telegram}
 use Rattle.telegram.specs.declared.Refusal.{Refusal}
 use Rattle.telegram.specs.declared.Refusal.the-variants.{TooShort}
 use Rattle.telegram.specs.declared.Read.{Read}
 use Rattle.telegram.specs.declared.Read.the-variants.{Accepted, Refused}
 
--- The reader's answer: the number of its refusal, or done with address, command and payload size.
+-- The reader's answer: its refusal, or done with address, command and payload size.
 abbrev pub readAs : Read → Outcome Telegram
 readAs (Accepted t) = done t
-readAs (Refused e) = refused (numberOf e)
+readAs (Refused e) = refusedFor (reasonOf e)
 
 -- The refusal that the reader's answer holds. (An accepted telegram holds none; of it this gives 1.)
 abbrev pub refusalIn : Read → Refusal

@@ -9,7 +9,7 @@ use lib.Dec.{eqb}
 use lib.ListN.{length}
 use borrow.Author.Needs.{needs}
 use borrow.Author.Tests.{ne-eqb}
-use Rattle.telegram.specs.Numbers.{Outcome, refused, done}
+use Rattle.telegram.specs.Numbers.{Outcome, refusedFor, done}
 use Rattle.telegram.proofs.Outcomes.{done-one}
 use Rattle.table.specs.Table.{rowOf, answerSizeOf, acknowledged}
 use Rattle.answer.specs.Answers.{answerLayoutOf}
@@ -27,7 +27,7 @@ keys : List ℕ
 keys = 0x4E ∷ 0x4C ∷ 0x4A ∷ 0x48 ∷ 0x42 ∷ 0x40 ∷ 0x0C ∷ 0x07 ∷ 0x03 ∷ 0x02 ∷ []
 
 silent : Outcome ℕ → Bool
-silent (refused n) = true
+silent (refusedFor d) = true
 silent (done x) = eqb x 0
 
 spoken : {x : ℕ} → 0 < x → eqb x 0 ≡ false

@@ -3,9 +3,9 @@ use mathlib.Core.Path.{_≡_, refl, sym, _∙_, ap, ap₂}
 use mathlib.Core.Bool.{true}
 use borrow.Author.Needs.{needs}
 use borrow.Author.Tests.{not-true, not-false}
-use Rattle.telegram.specs.Numbers.{Outcome, numberOf}
+use Rattle.telegram.specs.Numbers.{Outcome, reasonOf}
 use Rattle.capture.specs.declared.Phase.{Phase}
-use Rattle.capture.specs.State.{Standing, going, ended, stopped, standingOf, State, stateOf, resting, isLeft}
+use Rattle.capture.specs.State.{Standing, going, ended, stoppedFor, standingOf, State, stateOf, resting, isLeft}
 use Rattle.capture.specs.Calls.{Reply, Closed, answerOf}
 use Rattle.capture.proofs.States.{end-not, end-by}
 use Rattle.capture.proofs.end_run.Statement.{statement}
@@ -43,6 +43,6 @@ end-run-spec =
     (λ c. let q = ap standingOf (c .enum-told2 .given .1) in again _ ended q _ refl ∙ end-by _ (good (c .before .before)) ended q)
     (λ c.
     let p = c .before .phase .given in
-    let k = stopped (numberOf (p .0 .0)) in
+    let k = stoppedFor (reasonOf (p .0 .0)) in
     let q = ap standingOf (p .1) in
     again _ k q _ refl ∙ end-by _ (good (c .before .before .before)) k q))

@@ -3,8 +3,8 @@ use mathlib.Core.Path.{_≡_, sym, _∙_, ap}
 use mathlib.Core.Bool.{true}
 use borrow.Author.Needs.{needs}
 use borrow.Author.Tests.{not-true, not-false}
-use Rattle.telegram.specs.Numbers.{numberOf}
-use Rattle.capture.specs.State.{going, ended, stopped, standingOf, stateOf, isLeft}
+use Rattle.telegram.specs.Numbers.{reasonOf}
+use Rattle.capture.specs.State.{going, ended, stoppedFor, standingOf, stateOf, isLeft}
 use Rattle.capture.proofs.States.{next-not, next-by}
 use Rattle.capture.proofs.next_at.Statement.{statement}
 use Rattle.capture.proofs.next_at.Tie as tie
@@ -33,4 +33,4 @@ next-at-spec =
     (λ c.
     let p = c .before .before in
     c .bare3 .ensures
-    ∙ next-by _ _ _ (good (p .before .before)) (stopped (numberOf (p .phase .given .0 .0))) (ap standingOf (p .phase .given .1))))
+    ∙ next-by _ _ _ (good (p .before .before)) (stoppedFor (reasonOf (p .phase .given .0 .0))) (ap standingOf (p .phase .given .1))))

@@ -4,8 +4,8 @@ use mathlib.Core.Bool.{true}
 use Prim.Native.Nat.{ℕ}
 use borrow.Author.Needs.{needs}
 use borrow.Author.Tests.{not-true, not-false}
-use Rattle.telegram.specs.Numbers.{Outcome, numberOf}
-use Rattle.capture.specs.State.{Standing, ended, stopped, standingOf, State, stateOf, isLeft}
+use Rattle.telegram.specs.Numbers.{Outcome, reasonOf}
+use Rattle.capture.specs.State.{Standing, ended, stoppedFor, standingOf, State, stateOf, isLeft}
 use Rattle.capture.specs.Calls.{Reply, answerOf, Scanned, scanned}
 use Rattle.capture.specs.Uncut.{Final}
 use Rattle.capture.proofs.States.{scan-not, scan-left}
@@ -51,5 +51,5 @@ scan-chunk-spec =
     (λ c.
     let p = c .before .before in
     let g = ap standingOf (p .phase .given .1) in
-    c .still-scan3 .ensures ∙ again _ (stopped (numberOf (p .phase .given .0 .0))) g
+    c .still-scan3 .ensures ∙ again _ (stoppedFor (reasonOf (p .phase .given .0 .0))) g
     ∙ scan-final _ _ (good (p .before .before)) (subst Final (sym g) tt)))

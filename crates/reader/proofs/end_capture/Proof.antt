@@ -9,7 +9,7 @@ use denote.Ref.{now}
 use lib.ListN.{length, getD}
 use mir.Syntax.{w8}
 use mir.Val.{Fits}
-use Rattle.telegram.specs.Numbers.{refused, done, refuse, numberOf}
+use Rattle.telegram.specs.Numbers.{Reason, refused, done, refuse}
 use Rattle.telegram.proofs.Outcomes.{never, refused-one}
 use Rattle.capture.specs.declared.Step.{Step}
 use Rattle.capture.specs.State.{stateOf}
@@ -83,7 +83,7 @@ end-capture-spec =
     (λ c κs.
     let t = c .before .before in
     let f = t .before .before in
-    ((λ n. few f (λ z. n (refused-one (sym (ap stepAs (t .step .given .1)) ∙ z)))), enough f))
+    ((λ n. few f (λ z. n (ap (λ (x : Reason). x .number) (refused-one (sym (ap stepAs (t .step .given .1)) ∙ z))))), enough f))
     (λ c. search needs)
     (λ c.
     let k = c .before .before in

@@ -11,7 +11,7 @@ use lib.Dec.{ltb}
 use lib.ListN.{length, getD}
 use mir.Syntax.{w8}
 use mir.Val.{Fits}
-use Rattle.telegram.specs.Numbers.{refused, done, refuse, fitted, leaves}
+use Rattle.telegram.specs.Numbers.{Reason, refused, done, refuse, fitted, leaves}
 use Rattle.telegram.specs.Telegram.{Bytes}
 use Rattle.telegram.specs.declared.Telegram.{Telegram}
 use Rattle.telegram.proofs.Outcomes.{never, refused-one}
@@ -151,7 +151,7 @@ next-carried-spec =
     (λ c κs.
     let t = c .before .before in
     let f = t .before .before in
-    ((λ n. few f (λ z. n (refused-one (sym (ap stepAs (t .step2 .given .1)) ∙ z)))), enough f))
+    ((λ n. few f (λ z. n (ap (λ (x : Reason). x .number) (refused-one (sym (ap stepAs (t .step2 .given .1)) ∙ z))))), enough f))
     (λ c. search needs)
     (λ c. search needs)
     (λ c.

@@ -4,7 +4,7 @@ use mathlib.Core.Bool.{Bool, true, false, not}
 use borrow.Author.Needs.{needs}
 use borrow.Author.Tests.{not-true, not-false}
 use denote.Ref.{now}
-use Rattle.telegram.specs.Numbers.{Outcome, refused, done, refuse}
+use Rattle.telegram.specs.Numbers.{Outcome, done, refuse}
 use Rattle.capture.specs.State.{State, stateOf}
 use Rattle.reader.specs.Layout.{stateIn}
 use Rattle.reader.proofs.Exits.{position-none, position-by}

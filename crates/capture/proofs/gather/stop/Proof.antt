@@ -1,7 +1,7 @@
 -- `capture::gather::stop` meets its contract. Assumes nothing.
 use mathlib.Core.Path.{_∙_, ap}
 use borrow.Author.Needs.{needs}
-use Rattle.telegram.specs.Numbers.{refused, numberOf}
+use Rattle.telegram.specs.Numbers.{refusedFor, reasonOf}
 use Rattle.capture.specs.State.{State}
 use Rattle.capture.specs.Calls.{without}
 use Rattle.capture.proofs.gather.stop.Statement.{statement}
@@ -15,4 +15,4 @@ stop-spec =
     (λ c κs. search needs)
     (λ c.
     let a = c .before .before .args in
-    c .bare .ensures ∙ ap (λ (s : State). without (refused (numberOf (a .e))) (a .at) s) (c .before .resting .ensures)))
+    c .bare .ensures ∙ ap (λ (s : State). without (refusedFor (reasonOf (a .e))) (a .at) s) (c .before .resting .ensures)))

@@ -7,8 +7,8 @@ use borrow.Author.Needs.{needs}
 use borrow.Author.Tests.{not-true, not-false, eq-eqb, ne-eqb}
 use lib.Dec.{eqb}
 use lib.ListN.{drop}
-use Rattle.telegram.specs.Numbers.{numberOf}
-use Rattle.capture.specs.State.{Standing, going, ended, stopped, standingOf, stateOf, zeros}
+use Rattle.telegram.specs.Numbers.{reasonOf}
+use Rattle.capture.specs.State.{Standing, going, ended, stoppedFor, standingOf, stateOf, zeros}
 use Rattle.capture.proofs.States.{left-many, left-dirty, left-by}
 use Rattle.capture.proofs.state.is_left.Statement.{statement}
 use Rattle.capture.proofs.state.is_left.Tie as tie
@@ -37,7 +37,7 @@ is-left-spec =
     (λ c.
     let p = c .before in
     some _ _ (c .if3 .taken)
-    ∙ left-by _ (omega arith) (tidy (p .before .before .before)) (stopped (numberOf (p .before .phase .given .0 .0))) (ap standingOf (p .before .phase .given .1)))
+    ∙ left-by _ (omega arith) (tidy (p .before .before .before)) (stoppedFor (reasonOf (p .before .phase .given .0 .0))) (ap standingOf (p .before .phase .given .1)))
     (λ c κs. search needs)
     (λ c.
     c .unfinished .ensures
@@ -46,4 +46,4 @@ is-left-spec =
     (λ c.
     let p = c .before .before in
     none _ _ _ (c .before .if3 .left) (c .stops .ensures)
-    ∙ left-by _ (omega arith) (tidy (p .before .before .before)) (stopped (numberOf (p .before .phase .given .0 .0))) (ap standingOf (p .before .phase .given .1))))
+    ∙ left-by _ (omega arith) (tidy (p .before .before .before)) (stoppedFor (reasonOf (p .before .phase .given .0 .0))) (ap standingOf (p .before .phase .given .1))))

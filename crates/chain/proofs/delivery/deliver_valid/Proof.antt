@@ -5,7 +5,7 @@ use mathlib.Core.List.{List}
 use Prim.Native.Nat.{ℕ, _+_, _-_}
 use native.Mathlib.Omega.{arith}
 use lib.ListN.{take, drop}
-use Rattle.telegram.specs.Numbers.{refused, done, numberOf}
+use Rattle.telegram.specs.Numbers.{refusedFor, done, reasonOf}
 use Rattle.telegram.specs.Telegram.{readAs, reading}
 use Rattle.telegram.proofs.Reading.{accepted-count, refusal-is}
 use Rattle.command.specs.Commands.{headingAs, naming, dissecting}
@@ -45,11 +45,11 @@ sent-is c =
     sym (headed-message _ _ _ (heading-is c) (omega (arith, accepted-count _ _ r)) refl ∙ dissect-named _ r)
 
 -- what the reader or the heading refuses, the dissector refuses
-unread : (c : tie.After-refusal-of) → dissecting (bytes (c .before .before .before .before .before .before .before .before)) ≡ refused (numberOf (c .refusal-of .result))
+unread : (c : tie.After-refusal-of) → dissecting (bytes (c .before .before .before .before .before .before .before .before)) ≡ refusedFor (reasonOf (c .refusal-of .result))
 unread c =
     sym (dissect-refused _ (refusal-is _ _ (c .before .before .before .before .read-telegram .ensures) (c .before .before .enum-told .given .1) (c .refusal-of .ensures)))
 
-unnamed : (c : tie.After-known-told3) → dissecting (bytes (c .before .before .before .before .before .before .before .before .before .before .before)) ≡ refused (numberOf (c .before .heading2 .given .0 .0))
+unnamed : (c : tie.After-known-told3) → dissecting (bytes (c .before .before .before .before .before .before .before .before .before .before .before)) ≡ refusedFor (reasonOf (c .before .heading2 .given .0 .0))
 unnamed c =
     let s = bytes (c .before .before .before .before .before .before .before .before .before .before .before) in
     let t = c .before .before .before .before .before .read .given .0 .0 in
@@ -68,7 +68,7 @@ deliver-valid-spec =
     (λ c. search needs)
     (λ c.
     let a = c .before .before .before .before .before .before .before .before .before .before .before .args in
-    told-as (a .mem .now) (a .room .now) (delivered-as (a .mem .now) (a .telegram .now) (unread (c .before .before .before))) (refused-told (a .mem .now) (a .room .now) (numberOf (c .before .before .before .refusal-of .result)) (c .before .before .refuse .ensures)))
+    told-as (a .mem .now) (a .room .now) (delivered-as (a .mem .now) (a .telegram .now) (unread (c .before .before .before))) (refused-told (a .mem .now) (a .room .now) (reasonOf (c .before .before .before .refusal-of .result)) (c .before .before .refuse .ensures)))
     (λ c κs. search needs)
     (λ c. search needs)
     (λ c. omega (arith, accepted-count _ _ (read-is (c .before .before .before .before .before))))
@@ -89,4 +89,4 @@ deliver-valid-spec =
     (λ c. search needs)
     (λ c.
     let a = c .before .before .before .before .before .before .before .before .before .before .before .before .before .before .before .args in
-    told-as (a .mem .now) (a .room .now) (delivered-as (a .mem .now) (a .telegram .now) (unnamed (c .before .before .before .before))) (refused-told (a .mem .now) (a .room .now) (numberOf (c .before .before .before .before .before .heading2 .given .0 .0)) (c .before .before .refuse2 .ensures))))
+    told-as (a .mem .now) (a .room .now) (delivered-as (a .mem .now) (a .telegram .now) (unnamed (c .before .before .before .before))) (refused-told (a .mem .now) (a .room .now) (reasonOf (c .before .before .before .before .before .heading2 .given .0 .0)) (c .before .before .refuse2 .ensures))))

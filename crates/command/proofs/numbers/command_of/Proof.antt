@@ -7,7 +7,7 @@ use Prim.Native.Nat.{ℕ}
 use native.Mathlib.Omega.{arith}
 use lib.ListN.{length}
 use borrow.Author.Needs.{needs}
-use Rattle.telegram.specs.Numbers.{Outcome, refused, done}
+use Rattle.telegram.specs.Numbers.{Outcome, refusedFor, done}
 use Rattle.table.specs.Table.{rowOf, acknowledged, plainNumber}
 use Rattle.table.specs.declared.Row.{Row}
 use Rattle.command.specs.Fields.{layoutOf}
@@ -21,7 +21,7 @@ keys : List ℕ
 keys = 0x4F ∷ 0x4E ∷ 0x4D ∷ 0x4C ∷ 0x4B ∷ 0x4A ∷ 0x48 ∷ 0x42 ∷ 0x40 ∷ 0x0D ∷ 0x0C ∷ 0x07 ∷ 0x06 ∷ 0x05 ∷ 0x04 ∷ 0x03 ∷ 0x02 ∷ 0x01 ∷ 0x00 ∷ []
 
 unknown : Outcome Row → Bool
-unknown (refused n) = true
+unknown (refusedFor d) = true
 unknown (done r) = false
 
 -- the numbers left for `_` are acknowledged

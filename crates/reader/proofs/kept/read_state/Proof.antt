@@ -8,7 +8,7 @@ use borrow.Author.Needs.{needs}
 use borrow.Author.Tests.{not-true, not-false}
 use denote.Ref.{now}
 use lib.ListN.{getD}
-use Rattle.telegram.specs.Numbers.{Outcome, refused, done, refuse, after}
+use Rattle.telegram.specs.Numbers.{Outcome, done, refuse, after}
 use Rattle.capture.specs.State.{Standing, standingOf, State}
 use Rattle.reader.specs.Layout.{standingIn}
 use Rattle.reader.proofs.States.{standingState, state-short, state-by}
