@@ -10,13 +10,19 @@
  * does not overlap an input.
  *
  * Every function but osp_checksum, osp_record_len and osp_reader_position
- * returns number + 256 * count:
- *   number  0 is done; 1 to 13 is a refusal (OSP_ERR_*).
- *   count   how many bytes were written to the front of the room; 0 on refusal.
- * On a refusal every byte of the room and of the record stays as it was, but
- * OSP_ERR_CHECKSUM at delivery sets CE on the lamp at place 0, and a refusal of
- * the reader of a capture (1 to 5) is kept in its state, which stays stopped.
- * When done, the bytes past the last written one stay.
+ * returns its number in the lowest byte, and above it
+ *   number 0, done:      the count, how many bytes were written to the front of
+ *                        the room (OSP_COUNT);
+ *   number 5, checksum:  the checksum worked out in the second byte and the one
+ *                        received in the third (OSP_COMPUTED, OSP_RECEIVED),
+ *                        which always differ;
+ *   any other number:    nothing, zeros.
+ * So ask for the number first: the count means something for number 0 alone, and
+ * the two checksums for number 5 alone.
+ * On a refusal, 1 to 13 (OSP_ERR_*), every byte of the room and of the record
+ * stays as it was, but OSP_ERR_CHECKSUM at delivery sets CE on the lamp at place
+ * 0, and a refusal of the reader of a capture (1 to 5) is kept in its state,
+ * which stays stopped. When done, the bytes past the last written one stay.
  *
  * A chain lies in a record: memory that the caller lends, as docs/RECORD.md
  * describes. Any bytes may be given as a record; what holds no valid chain is
@@ -32,9 +38,11 @@
 extern "C" {
 #endif
 
-/* The two parts of what a function returns. */
+/* The parts of what a function returns: the count for number 0, the two checksums for number 5. */
 #define OSP_NUMBER(result) ((result) % 256u)
 #define OSP_COUNT(result) ((result) / 256u)
+#define OSP_COMPUTED(result) ((result) / 256u % 256u)
+#define OSP_RECEIVED(result) ((result) / 65536u % 256u)
 
 /* The numbers given back. */
 enum {
@@ -165,7 +173,9 @@ uint32_t osp_lamp(const uint8_t *record, size_t len, uint32_t place, uint8_t *ou
  *   bytes 2-9    the position in the run, high byte first, of the first byte
  *                that belongs to no telegram given so far; of a refused
  *                telegram its first byte. Counted modulo 2^64
- *   bytes 10-20  the carried bytes, zeros behind them
+ *   bytes 10-20  open: the carried bytes, zeros behind them; stopped by 5: the
+ *                checksum worked out, the one received, which differ, and zeros;
+ *                else zeros
  * Bytes behind these stay. Fewer bytes than OSP_READER_LEN, and a state that no
  * reading leaves, are refused with 11 and stay as they were.
  */
@@ -180,7 +190,7 @@ uint32_t osp_lamp(const uint8_t *record, size_t len, uint32_t place, uint8_t *ou
  * Refusals 11, then the reader's own (2 as soon as a telegram's first byte is
  * in, 3 with its third, 5 with its last), then 9. A refusal leaves *at and the
  * room. 2, 3 and 5 stop the reader: every later call for a telegram or for the
- * end repeats them. 9 leaves the reader as it was, too.
+ * end repeats them, 5 with both checksums. 9 leaves the reader as it was, too.
  */
 uint32_t osp_reader_next(uint8_t *reader, size_t len, const uint8_t *chunk, size_t n, size_t *at, uint8_t *out,
                          size_t room);

@@ -15,11 +15,21 @@
 #define READSTATUS 0x40
 #define STATUS_CE 0x08
 
-/* Gives the count of a call that was done. Ends the program when it was refused. */
+/* Prints a refusal: its number, and of a wrong checksum the one worked out and the one received. */
+static void print_refusal(FILE *to, uint32_t result)
+{
+    fprintf(to, "refused %u", (unsigned)OSP_NUMBER(result));
+    if (OSP_NUMBER(result) == OSP_ERR_CHECKSUM)
+        fprintf(to, ": worked out %02X, received %02X", (unsigned)OSP_COMPUTED(result), (unsigned)OSP_RECEIVED(result));
+    fprintf(to, "\n");
+}
+
+/* Gives the count of a call that was done; only then is there one. Ends the program when it was refused. */
 static size_t done(const char *call, uint32_t result)
 {
     if (OSP_NUMBER(result) != OSP_DONE) {
-        fprintf(stderr, "board: %s: refused %u\n", call, (unsigned)OSP_NUMBER(result));
+        fprintf(stderr, "board: %s: ", call);
+        print_refusal(stderr, result);
         exit(1);
     }
     return OSP_COUNT(result);
@@ -33,7 +43,7 @@ static void print_bytes(const char *label, const uint8_t *bytes, size_t n)
     printf("%s\n", n == 0 ? " none" : "");
 }
 
-/* Delivers a telegram and prints it, and its answer or the refusal's number. Gives what osp_deliver returned. */
+/* Delivers a telegram and prints it, and its answer or the refusal. Gives what osp_deliver returned. */
 static uint32_t deliver(uint8_t *record, size_t len, const uint8_t *telegram, size_t n, uint8_t *answer, size_t room)
 {
     uint32_t result = osp_deliver(record, len, telegram, n, answer, room);
@@ -42,7 +52,7 @@ static uint32_t deliver(uint8_t *record, size_t len, const uint8_t *telegram, si
     if (OSP_NUMBER(result) == OSP_DONE)
         print_bytes("rx", answer, OSP_COUNT(result));
     else
-        printf("refused %u\n", (unsigned)OSP_NUMBER(result));
+        print_refusal(stdout, result);
     return result;
 }
 

@@ -15,6 +15,7 @@ SHARED_OBJECT = Path(__file__).resolve().parents[2] / "target" / "shared" / "lib
 READER_LEN = 21
 LAMPS = 9
 ONE = 1
+CHECKSUM = 5
 READSTATUS = 0x40
 STATUS_CE = 0x08
 
@@ -38,10 +39,14 @@ ARGUMENTS = {
 
 
 class Refused(Exception):
-    """A refusal with the paper's number, 1 to 13."""
+    """A refusal with the paper's number, 1 to 13; a wrong checksum, 5, with the one worked out and the one received."""
 
-    def __init__(self, number):
-        super().__init__(f"refused {number}")
+    def __init__(self, result):
+        number, computed, received, _ = result.to_bytes(4, "little")
+        text = f"refused {number}"
+        if number == CHECKSUM:
+            text += f": worked out {computed:02X}, received {received:02X}"
+        super().__init__(text)
         self.number = number
 
 
@@ -66,9 +71,9 @@ def written(function, *arguments, room):
 
 
 def done(result):
-    """The count of a call that was done: it returns number + 256 * count."""
+    """The count of a call that was done, which stands above the number; a refusal has none."""
     if result % 256 != 0:
-        raise Refused(result % 256)
+        raise Refused(result)
     return result // 256
 
 
@@ -136,7 +141,7 @@ def in_hex(data):
 
 
 def deliver(chain, telegram):
-    """Delivers a telegram and prints it, and its answer or the refusal's number. Gives the answer, none when refused."""
+    """Delivers a telegram and prints it, and its answer or the refusal. Gives the answer, none when refused."""
     print("tx", in_hex(telegram))
     try:
         answer = chain.deliver(telegram)

@@ -4,6 +4,8 @@
 //!
 //!     rustc --edition 2021 -L native=target/staticlib examples/rust/board.rs && ./board
 
+use std::fmt;
+
 /// The functions of include/osp.h that are called here.
 #[rustfmt::skip]
 mod c {
@@ -42,15 +44,37 @@ const ONE: u32 = 1;
 const READSTATUS: u32 = 0x40;
 const STATUS_CE: u8 = 0x08;
 
-/// The paper's number of a refusal, 1 to 13.
+/// A refusal.
 #[derive(Debug)]
-struct Refusal(u32);
+enum Refusal {
+    /// 5: the checksum worked out and the one received.
+    Checksum { computed: u8, received: u8 },
+    /// Any other, by the paper's number, 1 to 13.
+    Other(u8),
+}
 
-/// The bytes that a call wrote to the front of its room, or its refusal: it returns number + 256 * count.
+impl fmt::Display for Refusal {
+    fn fmt(&self, out: &mut fmt::Formatter) -> fmt::Result {
+        match self {
+            Refusal::Checksum { computed, received } => {
+                write!(
+                    out,
+                    "refused 5: worked out {computed:02X}, received {received:02X}"
+                )
+            }
+            Refusal::Other(number) => write!(out, "refused {number}"),
+        }
+    }
+}
+
+/// The bytes that a call wrote to the front of its room, or its refusal. The number is the lowest byte of what it
+/// returns; above 0 stands the count, above 5 the two checksums.
 fn written(result: u32, room: &[u8]) -> Result<Vec<u8>, Refusal> {
-    match result % 256 {
+    let [number, computed, received, _] = result.to_le_bytes();
+    match number {
         0 => Ok(room[..(result / 256) as usize].to_vec()),
-        number => Err(Refusal(number)),
+        5 => Err(Refusal::Checksum { computed, received }),
+        _ => Err(Refusal::Other(number)),
     }
 }
 
@@ -197,7 +221,7 @@ fn print_bytes(label: &str, bytes: &[u8]) {
     );
 }
 
-/// Delivers a telegram and prints it, and its answer or the refusal's number. Gives the answer, none when refused.
+/// Delivers a telegram and prints it, and its answer or the refusal. Gives the answer, none when refused.
 fn deliver(chain: &mut Chain, telegram: &[u8]) -> Vec<u8> {
     print_bytes("tx", telegram);
     match chain.deliver(telegram) {
@@ -205,8 +229,8 @@ fn deliver(chain: &mut Chain, telegram: &[u8]) -> Vec<u8> {
             print_bytes("rx", &answer);
             answer
         }
-        Err(Refusal(number)) => {
-            println!("refused {number}");
+        Err(refusal) => {
+            println!("{refusal}");
             Vec::new()
         }
     }

@@ -3,3 +3,4 @@ pub mod Answering
 pub mod RoundTrip
 pub mod Either
 pub mod AsMarked
+pub mod Carrying

@@ -15,10 +15,10 @@ pub enum Directed {
     Nobody,
 }
 
-// The command that the words behind the address say: done, a refusal's number, or words that are wrong.
+// The command that the words behind the address say: done, a refusal, or words that are wrong.
 pub enum Composition {
     Done(Command),
-    Refused(u8),
+    Refused(u32),
     Wrong,
 }
 
@@ -135,7 +135,7 @@ fn bytes_at(line: &[u8], at: usize, number: u8) -> Composition {
     let c = command::compose(number, text::first(&bytes, h.count));
     match c {
         Composed::Accepted(command) => Composition::Done(command),
-        Composed::Refused(e) => Composition::Refused(telegram::refusal_number(e)),
+        Composed::Refused(e) => Composition::Refused(telegram::refusal_value(e)),
     }
 }
 
@@ -171,7 +171,7 @@ fn print(command: Command, cast: Cast, err: i32) -> u8 {
         Built::Refused(e) => complaint::say_refusal(
             err,
             complaint::BUILD,
-            telegram::refusal_number(e),
+            telegram::refusal_value(e),
         ),
     }
 }
@@ -180,7 +180,7 @@ fn build_values(line: &[u8], at: usize, number: u8, cast: Cast, err: i32) -> u8 
     let c = command_at(line, at, number);
     match c {
         Composition::Done(command) => print(command, cast, err),
-        Composition::Refused(n) => complaint::say_refusal(err, complaint::BUILD, n),
+        Composition::Refused(refusal) => complaint::say_refusal(err, complaint::BUILD, refusal),
         Composition::Wrong => complaint::say(err, complaint::BUILD, complaint::PAYLOAD_EXPECTED),
     }
 }

@@ -2,7 +2,6 @@
 -- Assumes nothing.
 use mathlib.Core.Path.{_≡_, refl, sym, ap, _∙_}
 use mathlib.Core.Bool.{Bool, true, false}
-use Prim.Native.Nat.{ℕ}
 use mathlib.Core.Logic.{_≢_}
 use native.Mathlib.Omega.{arith}
 use Rattle.telegram.specs.Numbers.{Reason, refusedFor}
@@ -11,14 +10,14 @@ use Rattle.capture.specs.State.{Standing, going, ended, stoppedFor, Stat
 use Rattle.capture.specs.Run.{run}
 use Rattle.capture.specs.Calls.{answerOf, nexting, closing, Scanned, scanning}
 use Rattle.capture.specs.Uncut.{Taken, LeavesTaken, TakenIsLeft, LeftIsTaken, Eleven, NeverEleven, ElevenExact, EndAndRefusalStay}
-use Rattle.capture.proofs.States.{none-stopped, stops-bare, next-not, end-not, scan-not, scan-left}
+use Rattle.capture.proofs.States.{none-stopped, stops-as, stops-low, next-not, end-not, scan-not, scan-left}
 use Rattle.capture.proofs.Taken.{leaves-taken}
 use Rattle.capture.proofs.Reached.{taken-is-left, left-is-taken}
 use Rattle.capture.proofs.Repeating.{end-and-refusal-stay}
 
 -- A state that is taken up was not stopped by 11.
 not-stopped : (s : State) (d : Reason) → Taken s → s .standing ≡ stoppedFor d → d .number ≢ 11
-not-stopped s d t e z = omega (arith, stops-bare d (none-stopped s (t .leaves) d e .1) .2)
+not-stopped s d t e z = omega (arith, stops-low d (stops-as d (none-stopped s (t .leaves) d e .1)) .1)
 
 answer-stopped : (k : Standing) (n : Reason) → answerOf k ≡ refusedFor n → k ≡ stoppedFor n
 answer-stopped going n e = absurd (never (sym e))
@@ -48,7 +47,7 @@ eleven-by false s e f = eleven s e
 -- Every call gives 11 for a state that no reading leaves, and none for one that some reading leaves.
 pub eleven-exact : ElevenExact
 unfolding ElevenExact TakenIsLeft LeftIsTaken
-eleven-exact s n y h = (
-  λ f. eleven-by (isLeft s) s refl (λ e. f (taken-is-left s (record { long = n; each = y; leaves = e }) h)),
+eleven-exact s n y z h = (
+  λ f. eleven-by (isLeft s) s refl (λ e. f (taken-is-left s (record { long = n; each = y; sums = z; leaves = e }) h)),
   λ x. never-eleven s (left-is-taken s x),
 )

@@ -10,6 +10,8 @@ pub mod Scanning
 pub mod Cutting
 pub mod Accepting
 pub mod Repeating
+pub mod Onto
 pub mod Reached
 pub mod Eleven
 pub mod Walks
+pub mod Carrying

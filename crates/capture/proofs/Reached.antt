@@ -1,28 +1,30 @@
 -- Each state that calls take up is left by a reading, so that 11 is exact: no state is refused by mistake, and none is taken up that no
--- reading leaves. Every position is reached, by telegrams of four and of five bytes.
+-- reading leaves. Every position is reached, by telegrams of four and of five bytes, and every two checksums that differ, by a telegram of
+-- five.
 -- Assumes nothing.
 use mathlib.Core.Path.{_≡_, refl, ap, _∙_, subst}
 use mathlib.Core.Bool.{Bool, true, _&&_}
 use mathlib.Core.List.{List, [], _∷_, _++_}
-use mathlib.Core.Logic.{inl, inr, ⊎-elim}
+use mathlib.Core.Logic.{_≢_, inl, inr, ⊎-elim}
 use Prim.Native.Nat.{ℕ, zero, suc, _+_, _-_, _*_, _/_, _%_, _≤_}
 use native.Mathlib.Omega.{arith}
-use borrow.Author.Tests.{ltb-true}
+use borrow.Author.Tests.{ltb-true, ne-eqb}
 use lib.Dec.{ltb}
 use lib.ListN.{length, length-append}
 use Rattle.checksum.specs.Checksum.{shiftBit, remainderByte, checksumOf}
-use Rattle.telegram.specs.Numbers.{Reason, done}
+use Rattle.telegram.specs.Numbers.{Reason, done, wrongChecksum}
 use Rattle.telegram.specs.Telegram.{framing, reading, telegramIn, Bytes}
 use Rattle.frame.specs.Frame.{Cutting, incomplete, cutting}
 use Rattle.frame.proofs.Fronts.{bytes-none, bytes-cons, bytes-append, bytes-take, none-incomplete}
-use Rattle.capture.specs.State.{Standing, going, ended, stoppedFor, stopped, State, carrying, resting, carriedIn}
+use Rattle.capture.specs.State.{Standing, going, ended, stoppedFor, stopped, checksumsIn, State, carrying, resting, carriedIn}
 use Rattle.capture.specs.Run.{wrapped, run, atEnd}
 use Rattle.capture.specs.Calls.{joined}
 use Rattle.capture.specs.Uncut.{Taken, Position, AllAccepted, AcceptedAreGiven, LeftBySome, TakenIsLeft, LeftIsTaken}
-use Rattle.capture.proofs.States.{both, carried-incomplete, none-ended, none-stopped, stops-bare, is-carrying, is-resting}
+use Rattle.capture.proofs.States.{both, carried-incomplete, none-ended, none-stopped, Stops, by-number, by-checksums, stops-as, is-carrying, is-resting}
 use Rattle.capture.proofs.Runs.{Gives, shows, behind, uncut}
 use Rattle.capture.proofs.Accepting.{accepted-are-given}
 use Rattle.capture.proofs.Taken.{taken-fresh, taken-run, taken-end}
+use Rattle.capture.proofs.Onto.{payload-for}
 
 -- Whether all are below 256.
 abbrev small : List ℕ → Bool
@@ -104,9 +106,10 @@ refused-3 : (p : ℕ) → run (carrying [] p) (160 ∷ 2 ∷ 128 ∷ []) ≡ res
 unfolding cutting
 refused-3 p = refl
 
-refused-5 : (p : ℕ) → run (carrying [] p) (160 ∷ 0 ∷ 0 ∷ 35 ∷ []) ≡ resting (stopped 5) p
-unfolding cutting reading framing checksumOf remainderByte shiftBit
-refused-5 p = refl
+refused-5 : (p x c r : ℕ) → checksumOf (160 ∷ 0 ∷ 128 ∷ x ∷ []) ≡ c → c ≢ r
+    → run (carrying [] p) (160 ∷ 0 ∷ 128 ∷ x ∷ r ∷ []) ≡ resting (stoppedFor (wrongChecksum c r)) p
+unfolding cutting reading framing
+refused-5 p x c r e h = simp (e, ne-eqb c r h)
 
 refused-1 : (p : ℕ) → atEnd (run (carrying [] p) (160 ∷ [])) ≡ resting (stopped 1) p
 unfolding cutting
@@ -116,17 +119,25 @@ refused-4 : (p : ℕ) → atEnd (run (carrying [] p) (160 ∷ 0 ∷ 128 ∷ 0 �
 unfolding cutting
 refused-4 p = refl
 
-stopped-by : (n : ℕ) (s : State) → Position (s .position) → 1 ≤ n → n ≤ 5 → resting (stopped n) (s .position) ≡ s → LeftBySome s
-stopped-by zero s h a b e = absurd (omega arith)
-stopped-by (suc zero) s h a b e = by-end s h (160 ∷ []) (bytes-by (160 ∷ []) refl) (refused-1 (s .position) ∙ e)
-stopped-by (suc (suc zero)) s h a b e = by-run s h (0 ∷ []) (bytes-by (0 ∷ []) refl) (refused-2 (s .position) ∙ e)
-stopped-by (suc (suc (suc zero))) s h a b e =
+numbered-by : (n : ℕ) (s : State) → Position (s .position) → 1 ≤ n → n ≤ 4 → resting (stopped n) (s .position) ≡ s → LeftBySome s
+numbered-by zero s h a b e = absurd (omega arith)
+numbered-by (suc zero) s h a b e = by-end s h (160 ∷ []) (bytes-by (160 ∷ []) refl) (refused-1 (s .position) ∙ e)
+numbered-by (suc (suc zero)) s h a b e = by-run s h (0 ∷ []) (bytes-by (0 ∷ []) refl) (refused-2 (s .position) ∙ e)
+numbered-by (suc (suc (suc zero))) s h a b e =
     by-run s h (160 ∷ 2 ∷ 128 ∷ []) (bytes-by (160 ∷ 2 ∷ 128 ∷ []) refl) (refused-3 (s .position) ∙ e)
-stopped-by (suc (suc (suc (suc zero)))) s h a b e =
+numbered-by (suc (suc (suc (suc zero)))) s h a b e =
     by-end s h (160 ∷ 0 ∷ 128 ∷ 0 ∷ []) (bytes-by (160 ∷ 0 ∷ 128 ∷ 0 ∷ []) refl) (refused-4 (s .position) ∙ e)
-stopped-by (suc (suc (suc (suc (suc zero))))) s h a b e =
-    by-run s h (160 ∷ 0 ∷ 0 ∷ 35 ∷ []) (bytes-by (160 ∷ 0 ∷ 0 ∷ 35 ∷ []) refl) (refused-5 (s .position) ∙ e)
-stopped-by (suc (suc (suc (suc (suc (suc n)))))) s h a b e = absurd (omega arith)
+numbered-by (suc (suc (suc (suc (suc n))))) s h a b e = absurd (omega arith)
+
+stopped-by : (d : Reason) (s : State) → Position (s .position) → Bytes (d .carries) → Stops d → resting (stoppedFor d) (s .position) ≡ s
+    → LeftBySome s
+stopped-by d s h y (by-number {n} a b) e = numbered-by n s h a b e
+stopped-by d s h y (by-checksums {c} {r} f) e =
+    let x = payload-for c (y 0) in
+    let t : List ℕ = x .0 ∷ r ∷ [] in
+    by-run s h (160 ∷ 0 ∷ 128 ∷ t)
+    (bytes-append (160 ∷ 0 ∷ 128 ∷ []) t (bytes-by (160 ∷ 0 ∷ 128 ∷ []) refl) (bytes-cons (x .0) (r ∷ []) (x .1) (bytes-cons r [] (y 1) bytes-none)))
+    (refused-5 (s .position) (x .0) c r (x .2) f ∙ e)
 
 -- Bytes that begin a telegram are carried.
 carried : (c : List ℕ) (p : ℕ) → cutting c ≡ incomplete → run (carrying [] p) c ≡ carrying c p
@@ -140,9 +151,8 @@ reached going s t h o =
 reached ended s t h o = by-end s h [] bytes-none (is-resting s (t .long) (t .leaves) o (none-ended s (t .leaves) o))
 reached (stoppedFor d) s t h o =
     let q = none-stopped s (t .leaves) d o in
-    let b = stops-bare d (q .1) in
-    stopped-by (d .number) s h (b .1) (b .2)
-    (ap (λ (x : Reason). resting (stoppedFor x) (s .position)) (b .0) ∙ is-resting s (t .long) (t .leaves) o (q .0))
+    stopped-by d s h (subst (λ (k : Standing). Bytes (checksumsIn k)) o (t .sums)) (stops-as d (q .1))
+    (is-resting s (t .long) (t .leaves) o (q .0))
 
 -- Each state that is taken up is left by a reading ..
 pub taken-is-left : TakenIsLeft

@@ -112,37 +112,43 @@ end-of-open s e o =
       long = λ h. rw (ne-eqb (s .count) 0 (λ z. omega arith), le-ltb (s .count) 4 h) at q;
     }
 
+-- What holds of each refusal that bytes give, and of what had stopped a reading, holds of what stops it after any bytes.
+abbrev pub Fair : (Reason → Type 0) → State → Type 0
+Fair P s = (d : Reason) → s .standing ≡ stoppedFor d → P d
+
+fair-going : (P : Reason → Type 0) (s : State) → s .standing ≡ going → Fair P s
+fair-going P s o d e = let z : _≡_ {A = ℕ} 0 1 = cc in absurd (omega arith)
+
+fair-stopped : (P : Reason → Type 0) (m : Reason) (p : ℕ) → P m → Fair P (resting (stoppedFor m) p)
+fair-stopped P m p f d e = let q : m ≡ d = cc in subst P q f
+
+module _ (P : Reason → Type 0) (cut : (n : ℕ) → (n ≡ 2) ⊎ (n ≡ 3) → P (bare n))
+    (sum : (w : List ℕ) (k : ℕ) (d : Reason) → cutting w ≡ whole k → reading (take k w) ≡ refusedFor d → P d) where
+  fair-judged : (w : List ℕ) (k p : ℕ) → cutting w ≡ whole k → (o : Outcome Telegram) → reading (take k w) ≡ o → Fair P (judged o k p)
+  fair-judged w k p e (done t) q = fair-going P (carrying [] (wrapped (p + k))) refl
+  fair-judged w k p e (refusedFor d) q = fair-stopped P d p (sum w k d e q)
+
+  fair-grown : (k : Cutting) (w : List ℕ) (p : ℕ) → cutting w ≡ k → Fair P (grown k w p)
+  fair-grown incomplete w p e = fair-going P (carrying w p) refl
+  fair-grown (broken m) w p e = fair-stopped P (bare m) p (cut m (fault w m e))
+  fair-grown (whole k) w p e = fair-judged w k p e (reading (take k w)) refl
+
+  fair-fed : (k : Standing) (s : State) (b : ℕ) → Fair P s → Fair P (fedBy k s b)
+  fair-fed going s b f = fair-grown (cutting (carriedIn s ++ b ∷ [])) (carriedIn s ++ b ∷ []) (s .position) refl
+  fair-fed ended s b f = f
+  fair-fed (stoppedFor d) s b f = f
+
+  pub fair-run : (s : State) (l : List ℕ) → Fair P s → Fair P (run s l)
+  fair-run s [] f = f
+  fair-run s (b ∷ l) f = fair-run (fed s b) l (fair-fed (s .standing) s b f)
+
 -- The refusals that bytes give.
-abbrev OfBytes : ℕ → Type 0
-OfBytes n = (n ≡ 2) ⊎ ((n ≡ 3) ⊎ (n ≡ 5))
-
-abbrev Fair : State → Type 0
-Fair s = (d : Reason) → s .standing ≡ stoppedFor d → OfBytes (d .number)
-
-fair-going : (s : State) → s .standing ≡ going → Fair s
-fair-going s o n e = let z : _≡_ {A = ℕ} 0 1 = cc in absurd (omega arith)
-
-fair-stopped : (m : Reason) (p : ℕ) → OfBytes (m .number) → Fair (resting (stoppedFor m) p)
-fair-stopped m p f d e = let q : m ≡ d = cc in subst (λ (x : Reason). OfBytes (x .number)) q f
-
-fair-judged : (w : List ℕ) (k p : ℕ) → cutting w ≡ whole k → (o : Outcome Telegram) → reading (take k w) ≡ o → Fair (judged o k p)
-fair-judged w k p e (done t) q = fair-going (carrying [] (wrapped (p + k))) refl
-fair-judged w k p e (refusedFor d) q = fair-stopped d p (inr (inr (ap (λ (x : Reason). x .number) (whole-refused w k d e q))))
-
-fair-grown : (k : Cutting) (w : List ℕ) (p : ℕ) → cutting w ≡ k → Fair (grown k w p)
-fair-grown incomplete w p e = fair-going (carrying w p) refl
-fair-grown (broken m) w p e = fair-stopped (bare m) p (⊎-elim (λ x. inl x) (λ x. inr (inl x)) (fault w m e))
-fair-grown (whole k) w p e = fair-judged w k p e (reading (take k w)) refl
-
-fair-fed : (k : Standing) (s : State) (b : ℕ) → Fair s → Fair (fedBy k s b)
-fair-fed going s b f = fair-grown (cutting (carriedIn s ++ b ∷ [])) (carriedIn s ++ b ∷ []) (s .position) refl
-fair-fed ended s b f = f
-fair-fed (stoppedFor d) s b f = f
-
-fair-run : (s : State) (l : List ℕ) → Fair s → Fair (run s l)
-fair-run s [] f = f
-fair-run s (b ∷ l) f = fair-run (fed s b) l (fair-fed (s .standing) s b f)
+abbrev OfBytes : Reason → Type 0
+OfBytes d = (d .number ≡ 2) ⊎ ((d .number ≡ 3) ⊎ (d .number ≡ 5))
 
 pub refusals-of-bytes : RefusalsOfBytes
 unfolding RefusalsOfBytes
-refusals-of-bytes s l n o e = fair-run s l (fair-going s o) n e
+refusals-of-bytes s l d o e =
+    fair-run OfBytes (λ n. ⊎-elim (λ x. inl x) (λ x. inr (inl x)))
+    (λ w k x q r. inr (inr (ap (λ (y : Reason). y .number) (whole-refused w k x q r .reason)))) s l
+    (fair-going OfBytes s o) d e

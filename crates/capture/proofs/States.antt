@@ -2,20 +2,21 @@
 -- by its standing, its position and the bytes that it carries. Then the answers, by how the reading stands. Callers cite these and
 -- unfold neither `isLeft` nor `nexting`, `closing`, `scanning`.
 -- Assumes nothing.
-use mathlib.Core.Path.{_≡_, refl, sym, ap, ap₂, _∙_}
-use mathlib.Core.Bool.{Bool, true, false, _&&_, false≢true}
+use mathlib.Core.Path.{_≡_, refl, sym, ap, ap₂, _∙_, subst}
+use mathlib.Core.Bool.{Bool, true, false, not, _&&_, false≢true}
+use mathlib.Core.Logic.{_≢_}
 use mathlib.Core.List.{List, [], _∷_, _++_}
 use Prim.Native.Nat.{ℕ, zero, suc, _-_, _≤_, _<_}
 use native.Mathlib.Omega.{arith}
-use borrow.Author.Tests.{le-leb, lt-leb, leb-true, eqb-true}
+use borrow.Author.Tests.{le-leb, lt-leb, leb-true, eqb-true, eqb-false, ne-eqb, not-true}
 use lib.Dec.{eqb, leb}
 use lib.ListN.{length, take, drop, replicate, length-drop, take-append-drop}
 use lib.Seq.{length-take-le, take-append-seam, drop-append-seam}
-use Rattle.telegram.specs.Numbers.{Reason, bare, refused}
+use Rattle.telegram.specs.Numbers.{Reason, bare, refused, wrongChecksum}
 use Rattle.telegram.specs.Telegram.{Bytes}
 use Rattle.frame.specs.Frame.{Cutting, incomplete, broken, whole, cutting}
 use Rattle.frame.proofs.Cuts.{incomplete-short}
-use Rattle.capture.specs.State.{Standing, going, ended, stoppedFor, State, padded, carrying, resting, carriedIn, zeros, isIncomplete, stops, leftBy, isLeft}
+use Rattle.capture.specs.State.{Standing, going, ended, stoppedFor, State, padded, carrying, resting, carriedIn, zeros, isIncomplete, stopsWith, stops, leftBy, isLeft}
 use Rattle.capture.specs.Run.{run, telegramsIn, endedBy}
 use Rattle.capture.specs.Calls.{without, nextBy, nexting, Closed, closed, closing, Scanned, scanned, scanning}
 
@@ -74,14 +75,30 @@ module _ (s : State) (e : isLeft s ≡ true) where
       let p = both (eqb (s .count) 0) (stops d) (stands-as (stoppedFor d) o) in
       (eqb-true _ _ (p .0), p .1)
 
--- What stops a reading carries nothing, and has a number from 1 to 5.
-stops-list : (n : ℕ) (l : List ℕ) → stops (record { number = n; carries = l }) ≡ true
-    → (_≡_ {A = Reason} (bare n) (record { number = n; carries = l })) × (1 ≤ n) × (n ≤ 5)
-stops-list n [] e = let q = both (leb 1 n) (leb n 5) e in (refl, leb-true _ _ (q .0), leb-true _ _ (q .1))
-stops-list n (x ∷ l) e = absurd (false≢true e)
+-- What stops a reading: 1 to 4, or 5 with two checksums that differ.
+pub data Stops : Reason → Type 0 where
+  by-number : {n : ℕ} → 1 ≤ n → n ≤ 4 → Stops (bare n)
+  by-checksums : {c r : ℕ} → c ≢ r → Stops (wrongChecksum c r)
 
-pub stops-bare : (d : Reason) → stops d ≡ true → (bare (d .number) ≡ d) × (1 ≤ d .number) × (d .number ≤ 5)
-stops-bare d e = stops-list (d .number) (d .carries) e
+stops-with : (n : ℕ) (l : List ℕ) → stopsWith n l ≡ true → Stops (record { number = n; carries = l })
+stops-with n [] e = let q = both (leb 1 n) (leb n 4) e in by-number (leb-true _ _ (q .0)) (leb-true _ _ (q .1))
+stops-with n (c ∷ []) e = absurd (false≢true e)
+stops-with n (c ∷ r ∷ []) e =
+    let q = both (eqb n 5) (not (eqb c r)) e in
+    subst (λ (k : ℕ). Stops (record { number = k; carries = c ∷ r ∷ [] })) (sym (eqb-true n 5 (q .0)))
+    (by-checksums (eqb-false c r (not-true _ (q .1))))
+stops-with n (c ∷ r ∷ x ∷ l) e = absurd (false≢true e)
+
+pub stops-as : (d : Reason) → stops d ≡ true → Stops d
+stops-as d e = stops-with (d .number) (d .carries) e
+
+pub stops-differ : (c r : ℕ) → c ≢ r → stops (wrongChecksum c r) ≡ true
+stops-differ c r h = simp (ne-eqb c r h)
+
+-- Its number is 1 to 5.
+pub stops-low : (d : Reason) → Stops d → (1 ≤ d .number) × (d .number ≤ 5)
+stops-low d (by-number a b) = (a, omega (arith, b))
+stops-low d (by-checksums h) = (omega arith, omega arith)
 
 -- Bytes that are all zero.
 pub zeros-all : (l : List ℕ) → zeros l ≡ true → l ≡ replicate (length l) 0

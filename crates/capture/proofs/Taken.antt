@@ -1,10 +1,10 @@
 -- A reading leaves only states that calls take up again.
 -- Assumes nothing.
-use mathlib.Core.Path.{_≡_, refl, ap, subst}
+use mathlib.Core.Path.{_≡_, refl, sym, ap, subst}
 use mathlib.Core.Bool.{Bool, true, false, cond}
 use mathlib.Core.List.{List, [], _∷_, _++_}
 use mathlib.Core.Logic.{⊎-elim}
-use Prim.Native.Nat.{ℕ, suc, _+_, _-_, _≤_, _<_}
+use Prim.Native.Nat.{ℕ, suc, _+_, _-_, _<_}
 use native.Mathlib.Omega.{arith}
 use lib.Dec.{eqb, ltb}
 use lib.ListN.{length, take, drop, replicate, length-append, length-replicate}
@@ -14,22 +14,23 @@ use Rattle.telegram.specs.declared.Telegram.{Telegram}
 use Rattle.frame.specs.Frame.{Cutting, incomplete, broken, whole, cutting}
 use Rattle.frame.proofs.Cuts.{fault, incomplete-short}
 use Rattle.frame.proofs.Fronts.{bytes-none, bytes-cons, bytes-append, bytes-take, bytes-drop, bytes-zeros, none-incomplete, whole-refused}
-use Rattle.capture.specs.State.{Standing, going, ended, stoppedFor, stopped, State, carrying, resting, carriedIn, stops, isLeft}
+use Rattle.capture.specs.State.{Standing, going, ended, stoppedFor, stopped, checksumsIn, State, carrying, resting, carriedIn, stops, isLeft}
 use Rattle.capture.specs.Run.{wrapped, judged, grown, fed, fedBy, run, endedBy, atEnd}
 use Rattle.capture.specs.Calls.{Given, nextBy, nexting, Closed, closing, Scanned, scanning}
 use Rattle.capture.specs.Uncut.{Taken, LeavesTaken}
-use Rattle.capture.proofs.States.{left-carrying, left-ended, left-stopped, next-by, end-by, scan-left}
+use Rattle.capture.proofs.States.{left-carrying, left-ended, left-stopped, stops-differ, next-by, end-by, scan-left}
 use Rattle.capture.proofs.Telegrams.{next-state}
 
 -- States that are taken up: an unfinished telegram is carried, or nothing.
-taken-resting : (k : Standing) (p : ℕ) → isLeft (resting k p) ≡ true → Taken (resting k p)
-taken-resting k p e = record { long = refl; each = bytes-zeros 12; leaves = e }
+taken-resting : (k : Standing) (p : ℕ) → Bytes (checksumsIn k) → isLeft (resting k p) ≡ true → Taken (resting k p)
+taken-resting k p y e = record { long = refl; each = bytes-zeros 12; sums = y; leaves = e }
 
 pub taken-carrying : (c : List ℕ) (p : ℕ) → Bytes c → cutting c ≡ incomplete → Taken (carrying c p)
 taken-carrying c p y e =
     record {
       long = simp (length-append, length-replicate) (omega (arith, incomplete-short c y e));
       each = bytes-append c (replicate (12 - length c) 0) y (bytes-zeros (12 - length c));
+      sums = bytes-none;
       leaves = left-carrying c p y e;
     }
 
@@ -37,23 +38,26 @@ pub taken-fresh : (p : ℕ) → Taken (carrying [] p)
 taken-fresh p = taken-carrying [] p bytes-none none-incomplete
 
 taken-ended : (p : ℕ) → Taken (resting ended p)
-taken-ended p = taken-resting ended p (left-ended p)
+taken-ended p = taken-resting ended p bytes-none (left-ended p)
 
-taken-stopped : (d : Reason) (p : ℕ) → stops d ≡ true → Taken (resting (stoppedFor d) p)
-taken-stopped d p e = taken-resting (stoppedFor d) p (left-stopped d p e)
+taken-stopped : (d : Reason) (p : ℕ) → Bytes (d .carries) → stops d ≡ true → Taken (resting (stoppedFor d) p)
+taken-stopped d p y e = taken-resting (stoppedFor d) p y (left-stopped d p e)
 
 -- What bytes make of them.
-taken-judged : (w : List ℕ) (k p : ℕ) → cutting w ≡ whole k → (o : Outcome Telegram) → reading (take k w) ≡ o → Taken (judged o k p)
-taken-judged w k p e (done t) q = taken-fresh (wrapped (p + k))
-taken-judged w k p e (refusedFor d) q =
-    taken-stopped d p (ap stops (whole-refused w k d e q))
+taken-judged : (w : List ℕ) (k p : ℕ) → Bytes w → cutting w ≡ whole k → (o : Outcome Telegram) → reading (take k w) ≡ o → Taken (judged o k p)
+taken-judged w k p y e (done t) q = taken-fresh (wrapped (p + k))
+taken-judged w k p y e (refusedFor d) q =
+    let m = whole-refused w k d e q in
+    let b = m .bytes y in
+    subst (λ (x : Reason). Taken (resting (stoppedFor x) p)) (sym (m .reason))
+    (taken-stopped _ p (bytes-cons (m .computed) (m .received ∷ []) (b .0) (bytes-cons (m .received) [] (b .1) bytes-none)) (stops-differ _ _ (m .differ)))
 
 pub taken-grown : (k : Cutting) (w : List ℕ) (p : ℕ) → Bytes w → cutting w ≡ k → Taken (grown k w p)
 taken-grown incomplete w p y e = taken-carrying w p y e
 taken-grown (broken n) w p y e =
-    taken-stopped (bare n) p
+    taken-stopped (bare n) p bytes-none
     (⊎-elim (λ m. ap (λ (x : ℕ). stops (bare x)) m) (λ m. ap (λ (x : ℕ). stops (bare x)) m) (fault w n e))
-taken-grown (whole k) w p y e = taken-judged w k p e (reading (take k w)) refl
+taken-grown (whole k) w p y e = taken-judged w k p y e (reading (take k w)) refl
 
 -- The bytes that are carried, with more behind them.
 with-more : (s : State) (l : List ℕ) → Taken s → Bytes l → Bytes (carriedIn s ++ l)
@@ -74,8 +78,8 @@ taken-run s (b ∷ l) t y = taken-run (fed s b) l (taken-fed s b t (y 0)) (λ k.
 -- What the end makes of them.
 left-over : (a b : Bool) (p : ℕ) → Taken (resting (cond a ended (cond b (stopped 1) (stopped 4))) p)
 left-over true b p = taken-ended p
-left-over false true p = taken-stopped (bare 1) p refl
-left-over false false p = taken-stopped (bare 4) p refl
+left-over false true p = taken-stopped (bare 1) p bytes-none refl
+left-over false false p = taken-stopped (bare 4) p bytes-none refl
 
 end-taken : (k : Standing) (s : State) → Taken s → Taken (endedBy k s)
 end-taken going s t = left-over (eqb (s .count) 0) (ltb (s .count) 4) (s .position)

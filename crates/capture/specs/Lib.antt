@@ -2,3 +2,4 @@ pub mod State
 pub mod Run
 pub mod Calls
 pub mod Uncut
+pub mod Carried

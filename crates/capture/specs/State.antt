@@ -1,7 +1,7 @@
 -- Request 01, "Captures as they arrive": what a reading remembers from one chunk to the next, and which states no reading leaves.
 -- Assumes nothing.
 use Prim.Native.Nat.{ℕ, _-_}
-use mathlib.Core.Bool.{Bool, true, false, _&&_}
+use mathlib.Core.Bool.{Bool, true, false, not, _&&_}
 use mathlib.Core.List.{List, [], _∷_, _++_}
 use lib.Dec.{eqb, leb}
 use lib.ListN.{length, take, drop, replicate}
@@ -26,6 +26,12 @@ abbrev pub standingOf : Phase → Standing
 standingOf Open = going
 standingOf Ended = ended
 standingOf (Stopped e) = stoppedFor (reasonOf e)
+
+-- The checksums that a reading holds: both, where 5 stopped it.
+abbrev pub checksumsIn : Standing → List ℕ
+checksumsIn going = []
+checksumsIn ended = []
+checksumsIn (stoppedFor e) = e .carries
 
 -- What is remembered: the first `count` of twelve bytes are those of an unfinished telegram; `position` is that of the first byte which
 -- belongs to no telegram given so far, so of a refused telegram's first byte.
@@ -66,14 +72,15 @@ isIncomplete incomplete = true
 isIncomplete (broken n) = false
 isIncomplete (whole k) = false
 
--- No values.
-abbrev pub nothing : List ℕ → Bool
-nothing [] = true
-nothing (x ∷ l) = false
+-- What stops a reading, by its number and what it carries: 1 to 4, which carry nothing, or 5 with two checksums that differ.
+abbrev pub stopsWith : ℕ → List ℕ → Bool
+stopsWith n [] = leb 1 n && leb n 4
+stopsWith n (c ∷ []) = false
+stopsWith n (c ∷ r ∷ []) = eqb n 5 && not (eqb c r)
+stopsWith n (c ∷ r ∷ x ∷ l) = false
 
--- What stops a reading: 1 to 5, which carry nothing.
 abbrev pub stops : Reason → Bool
-stops e = nothing (e .carries) && (leb 1 (e .number) && leb (e .number) 5)
+stops e = stopsWith (e .number) (e .carries)
 
 -- By how a reading stands: an open one carries an unfinished telegram or nothing, one that ended or was stopped carries nothing.
 abbrev pub leftBy : Standing → State → Bool

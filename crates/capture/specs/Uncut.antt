@@ -11,14 +11,15 @@ use Rattle.telegram.specs.Numbers.{Reason, refusedFor, refused, done}
 use Rattle.telegram.specs.Telegram.{reading, Bytes}
 use Rattle.telegram.specs.declared.Telegram.{Telegram}
 use Rattle.frame.specs.Frame.{cutting}
-use Rattle.capture.specs.State.{Standing, going, ended, stoppedFor, stopped, State, carrying, resting, carriedIn, isLeft}
+use Rattle.capture.specs.State.{Standing, going, ended, stoppedFor, stopped, checksumsIn, State, carrying, resting, carriedIn, isLeft}
 use Rattle.capture.specs.Run.{wrapped, grown, run, telegramsIn, atEnd}
 use Rattle.capture.specs.Calls.{Given, without, answerOf, nexting, closed, closing, scanned, scanning, told, Calls, Chunks, joined}
 
--- A state that calls take up, and do not refuse with 11: twelve bytes stand in it, and some reading leaves it.
+-- A state that calls take up, and do not refuse with 11: twelve bytes stand in it, its checksums are bytes, and some reading leaves it.
 pub record Taken (s : State) : Type 0 where
   pub long : length (s .bytes) ≡ 12
   pub each : Bytes (s .bytes)
+  pub sums : Bytes (checksumsIn (s .standing))
   pub leaves : isLeft s ≡ true
 
 -- Positions are counted modulo 2^64.
@@ -218,6 +219,7 @@ ElevenExact =
     (s : State)
     → length (s .bytes) ≡ 12
     → Bytes (s .bytes)
+    → Bytes (checksumsIn (s .standing))
     → Position (s .position)
     -- "A state that no reading leaves gives 11", and only such a state does.
     → ((LeftBySome s → ⊥) → Eleven s) × (LeftBySome s → NeverEleven s)

@@ -77,15 +77,25 @@ fn unfinished(bytes: [u8; 12], n: usize) -> bool
     }
 }
 
-// Whether a refusal stops a reading: 1 to 5.
+// Whether a refusal stops a reading: 5 whose checksums differ, or 1 to 4.
 fn stops(e: Refusal) -> bool
     ensures { λ r. ⌜ r ≡ stopsReading (reasonOf e) ⌝ }
 {
-    let n = telegram::refusal_number(e);
-    if n < 1 {
-        return false;
+    match e {
+        Refusal::TooShort => true,
+        Refusal::Preamble => true,
+        Refusal::SizeIndex => true,
+        Refusal::ByteCount => true,
+        Refusal::Checksum(computed, received) => computed != received,
+        Refusal::UnknownCommand => false,
+        Refusal::CastNotAllowed => false,
+        Refusal::PayloadSize => false,
+        Refusal::RoomTooSmall => false,
+        Refusal::OutOfRange => false,
+        Refusal::NoChain => false,
+        Refusal::InitPastEnd => false,
+        Refusal::NoLamp => false,
     }
-    n <= 5
 }
 
 // Whether some reading leaves this state.

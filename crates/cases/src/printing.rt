@@ -7,16 +7,25 @@ pub(crate) fn print_room(result: u32, out: &[u8; 48]) {
     print_result(result, out);
 }
 
-// The number given back and, where it is 0, the count and the bytes written; and whether another byte of the room changed.
+// The number given back; behind 0 the count and the bytes written, behind 5 the checksums worked out and received; and whether another
+// byte of the room changed.
 pub(crate) fn print_result(result: u32, out: &[u8]) {
     let number = result % 256;
-    let written = text::within((result / 256) as usize, out);
+    let count = if number == 0 { result / 256 } else { 0 };
+    let written = text::within(count as usize, out);
     print(b"  ");
     print_decimal(number);
-    if number == 0 {
-        print(b" ");
-        print_decimal(result / 256);
-        print_bytes(&out[..written]);
+    match number {
+        0 => {
+            print(b" ");
+            print_decimal(count);
+            print_bytes(&out[..written]);
+        }
+        5 => {
+            print_byte((result / 256 % 256) as u8);
+            print_byte((result / 65536 % 256) as u8);
+        }
+        _ => {}
     }
     print(b"\n");
     if !unchanged(text::from(out, written)) {

@@ -15,3 +15,4 @@ pub mod Lengths
 pub mod Results
 pub mod InMemory
 pub mod Contracts
+pub mod Carrying

@@ -5,3 +5,4 @@ pub mod Commanding
 pub mod Sound
 pub mod RoundTrip
 pub mod Exact
+pub mod Carrying

@@ -133,8 +133,8 @@ fn put_start(out: &mut [u8], subcommand: u8) -> usize {
     )
 }
 
-// Appends what is wrong, with a number, a refusal and a word that its form may show.
-fn put_wrong(out: &mut [u8], at: usize, what: u8, n: u64, refusal: u64, word: &[u8]) -> usize {
+// Appends what is wrong, with two values and a word that its form may show.
+fn put_wrong(out: &mut [u8], at: usize, what: u8, first: u64, second: u64, word: &[u8]) -> usize {
     words::put_form(
         out,
         at,
@@ -150,7 +150,7 @@ expected ADDRESS COMMAND [VALUES]: a hex address, everyone, or group N, then a c
 '%t' is no subcommand, or takes one word at most; see osp help
 expected a subcommand; see osp help
 expected at most 4,095 bytes of them
-refused %d: %r
+%r
 line %d: expected hex bytes, 'sensor PLACE TEMP FAULTS' or a comment
 a line of the script was refused; osp replay says which
 --lamps expects a number; see osp help %t
@@ -163,21 +163,21 @@ expected a file, or - for standard input; see osp help %t
 expected --lamps, --setup, --thresholds, --raw or a file; see osp help %t
 expected --json, --quiet or a file; see osp help %t
 a telegram of the capture was refused; osp replay --raw says which
-capture stopped at position %d: refused %d: %r
+capture stopped at position %d: %r
 a setmult_sr of the capture may be an answer of its lamp; it was done as a command
 ",
             what as usize,
         ),
-        [n, refusal, refusal, 0, 0, 0, 0, 0],
+        [first, second, 0, 0, 0, 0, 0, 0],
         word,
     )
 }
 
 // Says what is wrong.
-fn say_told(err: i32, subcommand: u8, what: u8, n: u64, refusal: u64, word: &[u8]) -> u8 {
+fn say_told(err: i32, subcommand: u8, what: u8, first: u64, second: u64, word: &[u8]) -> u8 {
     let mut line = [0u8; 256];
     let a = put_start(&mut line, subcommand);
-    let b = put_wrong(&mut line, a, what, n, refusal, word);
+    let b = put_wrong(&mut line, a, what, first, second, word);
     let c = text::put_byte(&mut line, b, b'\n');
     text::flush(err, &line, c);
     2
@@ -222,15 +222,14 @@ pub fn say_malformed(err: i32, subcommand: u8, line: u64) -> u8 {
 }
 
 // Says a refusal.
-pub fn say_refusal(err: i32, subcommand: u8, number: u8) -> u8 {
-    let n = number as u64;
-    say_told(err, subcommand, REFUSED, n, n, b"");
+pub fn say_refusal(err: i32, subcommand: u8, refusal: u32) -> u8 {
+    say_told(err, subcommand, REFUSED, refusal as u64, 0, b"");
     1
 }
 
 // Says where a capture stopped, and by which refusal.
-pub fn say_stopped(err: i32, subcommand: u8, position: u64, number: u8) -> u8 {
-    say_told(err, subcommand, STOPPED, position, number as u64, b"");
+pub fn say_stopped(err: i32, subcommand: u8, position: u64, refusal: u32) -> u8 {
+    say_told(err, subcommand, STOPPED, position, refusal as u64, b"");
     1
 }
 

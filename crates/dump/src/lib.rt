@@ -5,8 +5,8 @@ use walk::Manner;
 use walk::Run;
 use walk::Stop;
 
-// Appends the last line of a capture that ended, or that was refused by a number.
-fn put_end(out: &mut [u8], manner: Manner, run: Run, refusal: u8) -> usize {
+// Appends the last line of a capture that ended, or that was refused.
+fn put_end(out: &mut [u8], manner: Manner, run: Run, refusal: u32) -> usize {
     let reading = run.reading;
     let tally = run.tally;
     listing::put_end(
@@ -21,7 +21,7 @@ fn put_end(out: &mut [u8], manner: Manner, run: Run, refusal: u8) -> usize {
 }
 
 // Ends a listing with its last line. Answers the status.
-fn finish(out: &mut [u8], manner: Manner, run: Run, refusal: u8, err: i32) -> u8 {
+fn finish(out: &mut [u8], manner: Manner, run: Run, refusal: u32, err: i32) -> u8 {
     let n = put_end(out, manner, run, refusal);
     let status = if refusal == 0 { 0 } else { 1 };
     complaint::finish(err, complaint::DUMP, out, n, status)
@@ -32,7 +32,7 @@ fn conclude(out: &mut [u8], manner: Manner, run: Run, name: &[u8], err: i32) -> 
     let stop = run.stop;
     match stop {
         Stop::Ended => finish(out, manner, run, 0, err),
-        Stop::Refused(number) => finish(out, manner, run, number, err),
+        Stop::Refused(refusal) => finish(out, manner, run, refusal, err),
         Stop::Unwritten => complaint::say_error(err, complaint::DUMP, b"cannot write"),
         _ => complaint::say_error(err, complaint::DUMP, name),
     }

@@ -14,11 +14,11 @@ pub struct Manner {
     pub quiet: bool,
 }
 
-// Why a run stopped. A capture is refused by a number.
+// Why a run stopped. A capture is refused as `telegram::refusal_value` has it.
 pub enum Stop {
     Going,
     Ended,
-    Refused(u8),
+    Refused(u32),
     Unread,
     Unwritten,
 }
@@ -117,12 +117,12 @@ fn put_refused(
     book: &[u8],
     manner: Manner,
     there: Piece,
-    number: u8,
+    refusal: u32,
 ) -> usize {
     if manner.quiet {
         return at;
     }
-    listing::put_refused(out, at, book, manner.json, there, number)
+    listing::put_refused(out, at, book, manner.json, there, refusal)
 }
 
 // Lists a refused telegram, and stops.
@@ -135,12 +135,12 @@ fn list_refused(
     before: Run,
 ) -> Run {
     let mut run = flush_full(out, before);
-    let number = telegram::refusal_number(e);
-    run.at = put_refused(out, run.at, book, manner, there, number);
+    let refusal = telegram::refusal_value(e);
+    run.at = put_refused(out, run.at, book, manner, there, refusal);
     if !is_going(run) {
         return run;
     }
-    stopped(run, Stop::Refused(number))
+    stopped(run, Stop::Refused(refusal))
 }
 
 // Lists what a call read of a chunk from `used` on.
@@ -196,7 +196,7 @@ fn count_chunk(s: &[u8], run: Run) -> Run {
     next.tally = tally;
     let step = scan.step;
     match step {
-        Step::Refused(e) => stopped(next, Stop::Refused(telegram::refusal_number(e))),
+        Step::Refused(e) => stopped(next, Stop::Refused(telegram::refusal_value(e))),
         _ => next,
     }
 }

@@ -63,7 +63,7 @@ fn mark_told(number: u8, n: usize) -> Told {
 fn before_told(v: Verdict, n: usize) -> Told {
     match v {
         Verdict::Sent => bare(3),
-        Verdict::Refused(number, _) => mark_told(number, n),
+        Verdict::Refused(command, _) => mark_told(words::number_in(command), n),
         _ => bare(4),
     }
 }
@@ -71,10 +71,9 @@ fn before_told(v: Verdict, n: usize) -> Told {
 // What stands behind them: the line's end; one refusal of the reader, or two of the dissectors.
 fn after_told(v: Verdict) -> Told {
     match v {
-        Verdict::Refused(number, answer) => {
-            let n = number as u64;
-            let m = answer as u64;
-            values_told(if number < 6 { 5 } else { 6 }, n, n, m, m)
+        Verdict::Refused(command, answer) => {
+            let row = if words::number_in(command) < 6 { 5 } else { 6 };
+            values_told(row, command as u64, answer as u64, 0, 0)
         }
         _ => bare(0),
     }
@@ -90,8 +89,8 @@ fn say(out: &mut [u8], at: usize, book: &[u8], told: Told) -> usize {
 %_%^\n%;                                                       |
 command: %;                                                   |
 answer: %;                                                    |
-refused %d: %r\n%;                                             |
-as a command refused %d: %r\nas an answer refused %d: %r\n%;    |
+%r\n%;                                                         |
+as a command %r\nas an answer %r\n%;                            |
 ",
         told,
         b"",

@@ -2,17 +2,17 @@
 -- show a whole telegram.
 -- Assumes nothing.
 use mathlib.Core.Path.{_≡_, refl, sym, ap, _∙_}
-use mathlib.Core.Bool.{Bool, true, false}
+use mathlib.Core.Logic.{_≢_}
 use mathlib.Core.List.{List, [], _∷_, _++_}
 use Prim.Native.Nat.{ℕ, zero, suc, _+_, _<_}
 use native.Mathlib.Omega.{arith}
 use lib.ListN.{length, take, drop, replicate}
 use lib.Seq.{getD-drop, length-take-le}
-use Rattle.telegram.specs.Numbers.{Reason, bare, refusedFor, done}
-use Rattle.telegram.specs.Telegram.{indexIn, sizeOf, telegramIn, framing, reading, checksumRight, Bytes}
+use Rattle.telegram.specs.Numbers.{Reason, refusedFor, done, wrongChecksum}
+use Rattle.telegram.specs.Telegram.{indexIn, sizeOf, telegramIn, framing, reading, computedIn, receivedIn, Bytes}
 use Rattle.telegram.specs.declared.Telegram.{Telegram}
-use Rattle.telegram.proofs.Outcomes.{never, refused-one}
-use Rattle.telegram.proofs.Reading.{framed, frame-done, read-checksum, read-done, accepted}
+use Rattle.checksum.proofs.Laws.{checksum-lt}
+use Rattle.telegram.proofs.Reading.{framed, frame-done, read-differs, accepted}
 use Rattle.frame.specs.Frame.{incomplete, whole, cutting}
 use Rattle.frame.proofs.Cuts.{cut-none, cut-whole, complete, front-whole, whole-stays}
 
@@ -53,17 +53,27 @@ accepted-whole t l x e =
     sym (cut-whole t (omega (arith, f .enough)) (f .preamble) (omega (arith, f .enough)) (f .index) (omega arith)) ∙ ap whole n in
     whole-stays t l (length t) w
 
-checksum-only : (t : List ℕ) (x : Telegram) (d : Reason) → framing t ≡ done x → reading t ≡ refusedFor d
-    → (b : Bool) → checksumRight t (x .size) ≡ b → d ≡ bare 5
-checksum-only t x d f r false c = refused-one (sym r ∙ sym (read-checksum t x f c))
-checksum-only t x d f r true c = absurd (never (sym r ∙ sym (read-done t x f c)))
+-- Of a whole telegram the reader refuses only the checksum: two that differ, which are bytes where the telegram is.
+pub record Mismatch (s : List ℕ) (d : Reason) : Type 0 where
+  pub computed : ℕ
+  pub received : ℕ
+  pub differ : computed ≢ received
+  pub bytes : Bytes s → (computed < 256) × (received < 256)
+  pub reason : d ≡ wrongChecksum computed received
 
--- Of a whole telegram the reader refuses only the checksum.
-pub whole-refused : (s : List ℕ) (k : ℕ) (d : Reason) → cutting s ≡ whole k → reading (take k s) ≡ refusedFor d → d ≡ bare 5
+pub whole-refused : (s : List ℕ) (k : ℕ) (d : Reason) → cutting s ≡ whole k → reading (take k s) ≡ refusedFor d → Mismatch s d
 whole-refused s k d e r =
     let t = take k s in
     let q = complete t k (front-whole s k e) in
     let m : length t ≡ k = length-take-le k s (complete s k e .count) in
     let f : framing t ≡ done (telegramIn t) =
     sym (frame-done t (omega (arith, q .size)) (q .preamble) (q .index) (omega (arith, q .size))) in
-    checksum-only t (telegramIn t) d f r (checksumRight t (telegramIn t .size)) refl
+    let n = telegramIn t .size in
+    let p = read-differs t (telegramIn t) f r in
+    record {
+      computed = computedIn t n;
+      received = receivedIn t n;
+      differ = p .0;
+      bytes = λ y. (checksum-lt (take (3 + n) t), bytes-take k s y (3 + n));
+      reason = p .1;
+    }

@@ -18,7 +18,7 @@ use Rattle.command.specs.Commands.{Message}
 use Rattle.rules.specs.declared.Defaults.{Defaults}
 use Rattle.rules.specs.declared.Lamp.{Lamp}
 use Rattle.rules.specs.Lamp.{obeys, toldPlain, answered}
-use Rattle.rules.proofs.Walks.{where-true, either}
+use Rattle.telegram.proofs.Outcomes.{where-true, either}
 use Rattle.lamp.specs.declared.Payload.{Payload}
 use Rattle.lamp.specs.Reactions.{padded}
 

@@ -52,16 +52,15 @@ fn line_told(before: u64, line: Line) -> Told {
 }
 
 // The end of an object: a refusal, or a report that was done.
-fn end_told(refusal: u8) -> Told {
-    let n = refusal as u64;
+fn end_told(refusal: u32) -> Told {
     values_told(
         if refusal == 0 {
             texts::JSON_DONE
         } else {
             texts::JSON_REFUSED
         },
-        n,
-        n,
+        refusal as u64,
+        0,
         0,
         0,
     )
@@ -83,8 +82,8 @@ pub fn put_line(
         line_told(before, line),
         text::first(&bytes, line.count),
     );
-    if bits::or(line.count == 0, given.number != 0) {
-        return put_told(out, a, book, end_told(given.number), b"");
+    if bits::or(line.count == 0, given.refusal != 0) {
+        return put_told(out, a, book, end_told(given.refusal), b"");
     }
     let answer = given.answer;
     let b = put_command(out, a, book, line, given);

@@ -46,9 +46,9 @@ pub struct Line {
     pub faults: u32,
 }
 
-// What a chain gave for a line: the paper's number, and the answer in the first bytes of a room, of 12 at most.
+// What a chain gave for a line: its refusal as `telegram::refusal_value` has it, and the answer in the first bytes of a room, of 12 at most.
 pub struct Given {
-    pub number: u8,
+    pub refusal: u32,
     pub answer: [u8; 16],
     pub size: usize,
 }
@@ -232,7 +232,7 @@ pub fn is_either(line: Line, given: Given) -> bool {
     let kind = line.kind;
     let bytes = line.bytes;
     match kind {
-        Kind::Captured => bits::and(given.number == 0, table::is_acknowledged(bytes[2] % 128)),
+        Kind::Captured => bits::and(given.refusal == 0, table::is_acknowledged(bytes[2] % 128)),
         _ => false,
     }
 }
@@ -261,23 +261,22 @@ pub fn put_stopped(
     at: usize,
     style: Style,
     position: u64,
-    refusal: u8,
+    refusal: u32,
     book: &[u8],
 ) -> usize {
-    let n = refusal as u64;
     match style {
         Style::Text => put_told(
             out,
             at,
             book,
-            values_told(texts::STOPPED, position, n, n, 0),
+            values_told(texts::STOPPED, position, refusal as u64, 0, 0),
             b"",
         ),
         Style::Json => put_told(
             out,
             at,
             book,
-            values_told(texts::JSON_STOPPED, position, n, n, 0),
+            values_told(texts::JSON_STOPPED, position, refusal as u64, 0, 0),
             b"",
         ),
         Style::Silent => at,

@@ -30,15 +30,14 @@ fn put_received(out: &mut [u8], at: usize, book: &[u8], answer: [u8; 16], size: 
 }
 
 // The refusal behind the line's number, or behind the position in a capture.
-fn refused_told(kind: Kind, before: u64, refusal: u8) -> Told {
-    let n = refusal as u64;
+fn refused_told(kind: Kind, before: u64, refusal: u32) -> Told {
     match kind {
-        Kind::Captured => values_told(texts::POSITION_REFUSED, before, n, n, 0),
+        Kind::Captured => values_told(texts::POSITION_REFUSED, before, refusal as u64, 0, 0),
         _ => values_told(
             texts::LINE_REFUSED,
             std::num::wrapping_add_u64(before, 1),
-            n,
-            n,
+            refusal as u64,
+            0,
             0,
         ),
     }
@@ -66,9 +65,9 @@ fn put_telegram(
 ) -> usize {
     let bytes = line.bytes;
     let a = put_sent(out, at, book, text::first(&bytes, line.count));
-    if given.number != 0 {
+    if given.refusal != 0 {
         let kind = line.kind;
-        return put_told(out, a, book, refused_told(kind, before, given.number), b"");
+        return put_told(out, a, book, refused_told(kind, before, given.refusal), b"");
     }
     let answer = given.answer;
     let b = put_command(out, a, book, line, given);
@@ -97,7 +96,7 @@ fn put_sensor(
     book: &[u8],
     before: u64,
     line: Line,
-    refusal: u8,
+    refusal: u32,
 ) -> usize {
     let said = values_told(
         texts::SENSOR,
@@ -129,7 +128,7 @@ pub fn put_line(
 ) -> usize {
     let kind = line.kind;
     match kind {
-        Kind::Sensor => put_sensor(out, at, book, before, line, given.number),
+        Kind::Sensor => put_sensor(out, at, book, before, line, given.refusal),
         _ => put_telegram(out, at, book, before, line, given),
     }
 }

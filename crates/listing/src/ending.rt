@@ -84,7 +84,7 @@ fn refusal_told(json: bool, refusal: u64) -> Told {
     if json {
         return values_told(8, refusal, 0, 0, 0);
     }
-    values_told(if refusal == 0 { 6 } else { 7 }, refusal, refusal, 0, 0)
+    values_told(if refusal == 0 { 6 } else { 7 }, refusal, 0, 0, 0)
 }
 
 fn rest_told(json: bool, quiet: bool, t: Tally, refusal: u64) -> Told {
@@ -94,7 +94,7 @@ fn rest_told(json: bool, quiet: bool, t: Tally, refusal: u64) -> Told {
     counts_told(json, t, refusal)
 }
 
-// Appends a form; the last one is longer than its row.
+// Appends a form.
 fn say(out: &mut [u8], at: usize, told: Told) -> usize {
     words::put_row(
         out,
@@ -107,9 +107,10 @@ stopped at position %d: %d telegram%p before it%;             |
  (%d command%p, %d answer%p, %d neither)\n%;                   |
  (%d command%p, %d answer%p, %d either, %d neither)\n%;        |
 \n%;                                                           |
-, refused %d: %r\n%;                                           |
-,\"number\":%d}\n%;                                              |
-,\"commands\":%d,\"answers\":%d,\"either\":%d,\"neither\":%d,\"number\":%d}\n",
+, %r\n%;                                                       |
+,%N}\n%;                                                       |
+,\"commands\":%d,\"answers\":%d,\"either\":%d,\"neither\":%d,%N}\n%;   |
+",
         told,
         b"",
     )
@@ -123,7 +124,7 @@ pub fn put_end(
     quiet: bool,
     position: u64,
     t: Tally,
-    refusal: u8,
+    refusal: u32,
 ) -> usize {
     let n = t.telegrams;
     let start = values_told(start_row(json, refusal != 0), position, n, n, 0);

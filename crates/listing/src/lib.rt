@@ -62,12 +62,25 @@ pub fn judged(p: Piece) -> Verdict {
     verdict::judge(text::first(&bytes, p.count))
 }
 
+// Appends the numbers of the two refusals of a telegram.
+fn put_neither(
+    out: &mut [u8],
+    at: usize,
+    book: &[u8],
+    row: u8,
+    command: u32,
+    answer: u32,
+) -> usize {
+    let c = words::number_in(command) as u64;
+    let a = words::number_in(answer) as u64;
+    put_told(out, at, book, values_told(row, c, a, 0, 0), b"")
+}
+
 // Appends what a telegram says, or the numbers of its two refusals.
 pub(crate) fn put_meaning(out: &mut [u8], at: usize, book: &[u8], v: Verdict, m: Message) -> usize {
     match v {
         Verdict::Refused(command, answer) => {
-            let told = values_told(texts::NEITHER, command as u64, answer as u64, 0, 0);
-            put_told(out, at, book, told, b"")
+            put_neither(out, at, book, texts::NEITHER, command, answer)
         }
         _ => verdict::put_words(out, at, book, v, m),
     }
@@ -93,8 +106,7 @@ fn put_object_end(out: &mut [u8], at: usize, book: &[u8], v: Verdict, m: Message
             put_given(out, a, book, texts::JSON_OR_ANSWERS, m)
         }
         Verdict::Refused(command, answer) => {
-            let told = values_told(texts::JSON_NEITHER, command as u64, answer as u64, 0, 0);
-            put_told(out, at, book, told, b"")
+            put_neither(out, at, book, texts::JSON_NEITHER, command, answer)
         }
     }
 }

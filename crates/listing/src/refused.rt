@@ -14,17 +14,6 @@ fn size_in(b: [u8; 16]) -> u64 {
     telegram::size_of(index_in(b)) as u64
 }
 
-// The last byte of so many.
-fn last_of(b: [u8; 16], count: usize) -> u8 {
-    text::byte_at(&b, std::num::wrapping_sub_usize(count, 1))
-}
-
-// The checksum of all bytes before the last of so many.
-fn checksum_of(b: [u8; 16], count: usize) -> u8 {
-    let before = text::first(&b, std::num::wrapping_sub_usize(count, 1));
-    checksum::checksum(before)
-}
-
 // How many bytes of those that are there decided a refusal: of 2 the first, of 3 the first three, of 5 a whole telegram, else all.
 fn deciding(number: u8, b: [u8; 16], count: usize) -> usize {
     match number {
@@ -35,21 +24,14 @@ fn deciding(number: u8, b: [u8; 16], count: usize) -> usize {
     }
 }
 
-// What was expected.
+// What was expected, of 1 to 4.
 fn expected_told(number: u8, b: [u8; 16], count: usize) -> Told {
     let n = count as u64;
     match number {
         1 => values_told(0, n, 0, 0, 0),
         2 => values_told(1, b[0] as u64, 0, 0, 0),
         3 => values_told(2, index_in(b) as u64, 0, 0, 0),
-        4 => values_told(3, std::num::wrapping_add_u64(size_in(b), 4), n, 0, 0),
-        _ => values_told(
-            4,
-            checksum_of(b, count) as u64,
-            last_of(b, count) as u64,
-            0,
-            0,
-        ),
+        _ => values_told(3, std::num::wrapping_add_u64(size_in(b), 4), n, 0, 0),
     }
 }
 
@@ -66,18 +48,18 @@ fn three_told(row: u8, b: [u8; 16]) -> Told {
 // What the bytes claim.
 fn claimed_told(number: u8, b: [u8; 16], count: usize) -> Told {
     match number {
-        2 => bare(5),
-        3 => three_told(7, b),
+        2 => bare(4),
+        3 => three_told(6, b),
         _ => {
             if count < 3 {
-                return bare(6);
+                return bare(5);
             }
-            three_told(8, b)
+            three_told(7, b)
         }
     }
 }
 
-// Appends a form: what was expected, what is claimed, what stands between them, and the same of an object.
+// Appends a form: what was expected, what is claimed, what stands before, between and behind them, and the same of an object.
 fn say(out: &mut [u8], at: usize, book: &[u8], told: Told) -> usize {
     words::put_row(
         out,
@@ -87,30 +69,31 @@ fn say(out: &mut [u8], at: usize, book: &[u8], told: Told) -> usize {
 a first byte A0 to AF, got %b%;                               |
 size index 0 to 4, 6 or 7, got %d%;                           |
 %d bytes, got %d%;                                            |
-checksum %b, got %b%;                                         |
 claims nothing%;                                              |
 claims nothing yet%;                                          |
 claims command %b (%c), address %a%;                          |
 claims command %b (%c), address %a, %d payload byte%p%;       |
-refused %d: %r\n            expected %;                        |
+%r\n            %;                                             |
+expected %;                                                   |
 \n            %;                                               |
-\n            with that checksum: %;                           |
+\n            with checksum %b: %;                             |
 \n%;                                                           |
-,\"number\":%d,\"refusal\":\"%r\",\"expected\":\"%;                    |
-\"}\n%;                                                         |
+,%R%;                                                         |
+,\"expected\":\"%;                                               |
+\"%;                                                           |
+}\n%;                                                          |
 ",
         told,
         b"",
     )
 }
 
-// The telegram with the right checksum in place of its last byte.
-fn mended(p: Piece) -> Piece {
+// The telegram with a checksum in place of its last byte.
+fn mended(p: Piece, checksum: u8) -> Piece {
     let mut bytes = p.bytes;
     let last = std::num::wrapping_sub_usize(p.count, 1);
-    let sum = checksum_of(bytes, p.count);
     if last < 16 {
-        bytes[last] = sum;
+        bytes[last] = checksum;
     }
     Piece {
         position: p.position,
@@ -120,46 +103,56 @@ fn mended(p: Piece) -> Piece {
 }
 
 // Appends what a telegram whose checksum is wrong says with the right one.
-fn put_mended(out: &mut [u8], at: usize, book: &[u8], p: Piece) -> usize {
-    let right = mended(p);
-    let a = say(out, at, book, bare(11));
+fn put_mended(out: &mut [u8], at: usize, book: &[u8], p: Piece, checksum: u8) -> usize {
+    let right = mended(p, checksum);
+    let a = say(out, at, book, values_told(11, checksum as u64, 0, 0, 0));
     let v = crate::judged(right);
-    let b = crate::put_meaning(out, a, book, v, crate::message_in(right));
-    say(out, b, book, bare(12))
+    crate::put_meaning(out, a, book, v, crate::message_in(right))
 }
 
-// Appends the telegram with its refusal and what was expected.
-fn put_expected(out: &mut [u8], at: usize, book: &[u8], p: Piece, number: u8) -> usize {
-    let n = number as u64;
-    let bytes = p.bytes;
-    let a = crate::put_start(out, at, book, p);
-    let b = say(out, a, book, values_told(9, n, n, 0, 0));
-    say(out, b, book, expected_told(number, bytes, p.count))
-}
-
-// Appends what the bytes claim.
-fn put_claims(out: &mut [u8], at: usize, book: &[u8], p: Piece, number: u8) -> usize {
-    let bytes = p.bytes;
-    let a = say(out, at, book, bare(10));
-    say(out, a, book, claimed_told(number, bytes, p.count))
-}
-
-fn put_lines(out: &mut [u8], at: usize, book: &[u8], p: Piece, number: u8) -> usize {
-    let a = put_expected(out, at, book, p, number);
-    let b = put_claims(out, a, book, p, number);
+// Appends what was expected, between two rows; nothing of 5, which says so itself.
+fn put_expected(
+    out: &mut [u8],
+    at: usize,
+    book: &[u8],
+    p: Piece,
+    number: u8,
+    before: u8,
+    behind: u8,
+) -> usize {
     if number == 5 {
-        return put_mended(out, b, book, p);
+        return at;
     }
-    say(out, b, book, bare(12))
+    let bytes = p.bytes;
+    let a = say(out, at, book, bare(before));
+    let b = say(out, a, book, expected_told(number, bytes, p.count));
+    say(out, b, book, bare(behind))
 }
 
-fn put_object(out: &mut [u8], at: usize, book: &[u8], p: Piece, number: u8) -> usize {
-    let n = number as u64;
+// Appends what the bytes claim, and of 5 what they say with the right checksum.
+fn put_claims(out: &mut [u8], at: usize, book: &[u8], p: Piece, refusal: u32) -> usize {
     let bytes = p.bytes;
+    let number = words::number_in(refusal);
+    let a = say(out, at, book, claimed_told(number, bytes, p.count));
+    if number == 5 {
+        return put_mended(out, a, book, p, words::computed_in(refusal));
+    }
+    a
+}
+
+fn put_lines(out: &mut [u8], at: usize, book: &[u8], p: Piece, refusal: u32) -> usize {
+    let a = crate::put_start(out, at, book, p);
+    let b = say(out, a, book, values_told(8, refusal as u64, 0, 0, 0));
+    let c = put_expected(out, b, book, p, words::number_in(refusal), 9, 10);
+    let d = put_claims(out, c, book, p, refusal);
+    say(out, d, book, bare(12))
+}
+
+fn put_object(out: &mut [u8], at: usize, book: &[u8], p: Piece, refusal: u32) -> usize {
     let a = crate::put_object_start(out, at, book, p);
-    let b = say(out, a, book, values_told(13, n, n, 0, 0));
-    let c = say(out, b, book, expected_told(number, bytes, p.count));
-    say(out, c, book, bare(14))
+    let b = say(out, a, book, values_told(13, refusal as u64, 0, 0, 0));
+    let c = put_expected(out, b, book, p, words::number_in(refusal), 14, 15);
+    say(out, c, book, bare(16))
 }
 
 // Appends the refused telegram. `there` has its bytes as far as they are there, of which those are shown that decided the refusal.
@@ -169,16 +162,16 @@ pub fn put_refused(
     book: &[u8],
     json: bool,
     there: Piece,
-    number: u8,
+    refusal: u32,
 ) -> usize {
     let bytes = there.bytes;
     let p = Piece {
         position: there.position,
         bytes,
-        count: deciding(number, bytes, there.count),
+        count: deciding(words::number_in(refusal), bytes, there.count),
     };
     if json {
-        return put_object(out, at, book, p, number);
+        return put_object(out, at, book, p, refusal);
     }
-    put_lines(out, at, book, p, number)
+    put_lines(out, at, book, p, refusal)
 }

@@ -3,3 +3,4 @@ pub mod Directing
 pub mod BuildPwm
 pub mod ChainCalls
 pub mod AsRun
+pub mod Carrying

@@ -1,18 +1,18 @@
-// What a function returns: the number of a refusal, or how many bytes were written.
+// What a function returns: the number of a refusal with what it carries, or how many bytes were written.
 use chain::Delivered;
 use telegram::Built;
 use telegram::Refusal;
 ghost use mathlib.Core.Path.{_≡_};
 ghost use Prim.Native.Nat.{ℕ, _<_};
-ghost use Rattle.telegram.specs.Numbers.{done, numberOf, builtAs};
+ghost use Rattle.telegram.specs.Numbers.{done, reasonOf, valueOf, builtAs};
 ghost use Rattle.chain.specs.Memory.{deliveredAs};
 ghost use Rattle.reader.specs.Interface.{packed};
 
-// The number of a refusal as it is returned.
+// A refusal as it is returned.
 pub(crate) fn refusal_returned(e: Refusal) -> u32
-    ensures { λ r. ⌜ r ≡ numberOf e ⌝ }
+    ensures { λ r. ⌜ r ≡ valueOf (reasonOf e) ⌝ }
 {
-    telegram::refusal_number(e) as u32
+    telegram::refusal_value(e)
 }
 
 // A builder's answer as it is returned.

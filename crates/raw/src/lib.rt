@@ -7,10 +7,10 @@ use lines::Style;
 use script::Run;
 use script::Stop;
 
-// A capture that was done: the run, and the number by which the capture itself was refused behind that many bytes, 0 for none.
+// A capture that was done: the run, and the refusal of the capture itself behind that many bytes, as `telegram::refusal_value` has it.
 pub struct Played {
     pub run: Run,
-    pub refusal: u8,
+    pub refusal: u32,
 }
 
 // A capture that is being done: the run, and what the reading remembers. `used` of the run counts the bytes that are carried.
@@ -19,11 +19,11 @@ struct Walk {
     reading: Reading,
 }
 
-// The number by which a reading was stopped, 0 for none.
-fn refusal_of(reading: Reading) -> u8 {
+// The refusal that stopped a reading, 0 for none.
+fn refusal_of(reading: Reading) -> u32 {
     let phase = reading.phase;
     match phase {
-        Phase::Stopped(e) => telegram::refusal_number(e),
+        Phase::Stopped(e) => telegram::refusal_value(e),
         _ => 0,
     }
 }

@@ -1,25 +1,25 @@
 -- A telegram that lies whole in the chunk, where nothing is carried: what the call gives and leaves. Assumes nothing.
-use mathlib.Core.Path.{_≡_, refl, sym, ap, ap₂, _∙_, subst}
-use mathlib.Core.Bool.{Bool, true, cond}
-use mathlib.Core.List.{List, [], _∷_, _++_, append-assoc}
+use mathlib.Core.Path.{_≡_, refl, sym, ap, ap₂, _∙_}
+use mathlib.Core.Bool.{cond}
+use mathlib.Core.List.{List, [], _∷_, _++_}
 use Prim.Native.Nat.{ℕ, _+_, _-_, _≤_}
 use native.Mathlib.Omega.{arith}
 use lib.Dec.{ltb}
 use lib.ListN.{length, getD, take, drop, replicate, length-take, length-drop, take-append-drop}
 use lib.Seq.{take-suc, take-at, drop-drop, length-take-le}
-use Rattle.telegram.specs.Numbers.{Outcome, done, fitted, front}
+use Rattle.telegram.specs.Numbers.{Outcome, done, fitted}
 use Rattle.telegram.specs.Telegram.{reading}
 use Rattle.telegram.specs.declared.Telegram.{Telegram}
 use Rattle.telegram.proofs.Reading.{accepted-count}
 use Rattle.frame.specs.Frame.{Cutting, whole, cutting}
 use Rattle.frame.proofs.Fronts.{accepted-whole}
-use Rattle.capture.specs.State.{Standing, going, State, padded, carrying}
+use Rattle.capture.specs.State.{going, padded, carrying}
 use Rattle.capture.specs.Run.{wrapped}
 use Rattle.capture.specs.Calls.{telegram, Given, nextJudged, nextCut, nexting}
 use Rattle.capture.proofs.States.{zeros-all, next-by}
 use Rattle.capture.proofs.Taken.{taken-fresh}
-use Rattle.reader.specs.Layout.{standingIn, positionIn, carriedBytes, positionBytes, stateIn, holding}
-use Rattle.reader.specs.Interface.{Called, answering, readerNext}
+use Rattle.reader.specs.Layout.{standingIn, positionIn, positionBytes, stateIn, holding}
+use Rattle.reader.specs.Interface.{Called, readerNext}
 use Rattle.reader.specs.Resting.{AtRest}
 use Rattle.reader.proofs.States.{state-by}
 use Rattle.reader.proofs.Exits.{next-told}
@@ -44,7 +44,7 @@ module _ (mem : List ℕ) (r : AtRest mem) where
   -- Memory at rest holds a reading that carries nothing.
   pub rest-state : stateIn mem ≡ done (carrying [] (positionIn mem))
   rest-state =
-      sym (state-by mem (r .long) (done going) (ap (λ (p : ℕ). standingIn p (getD mem 1 0)) (sym (r .phase))))
+      sym (state-by mem (r .long) (done going) (ap (λ (p : ℕ). standingIn p (getD mem 1 0) (getD mem 10 0) (getD mem 11 0)) (sym (r .phase))))
       ∙ ap₂ (λ (n : ℕ) (b : List ℕ). done (record { standing = going; count = n; position = positionIn mem; bytes = b })) (r .none)
       (ap (λ (l : List ℕ). l ++ 0 ∷ []) clear-bytes)
 

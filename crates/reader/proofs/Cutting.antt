@@ -12,7 +12,7 @@ use Rattle.capture.specs.Uncut.{AllBytes, EveryCuttingSame, EveryCuttingHasCall
 use Rattle.capture.proofs.Cutting.{cut-same, cut-has-calls}
 use Rattle.reader.specs.Interface.{readerNext}
 use Rattle.reader.specs.Kept.{TakenIn, AsOnTheState, MemoryCalls, MemoryChunks, EveryCuttingSameInMemory, EveryCuttingHasCallsInMemory}
-use Rattle.reader.proofs.Back.{held-taken}
+use Rattle.reader.proofs.Holding.{held-taken}
 use Rattle.reader.proofs.InMemory.{as-on-the-state, told-in}
 
 -- The calls on memory are calls on the states that it holds, on a chunk ..

@@ -1,13 +1,13 @@
 -- What each function gives back and leaves, by what was read out of memory and what the reading answered. Assumes nothing.
-use mathlib.Core.Path.{_≡_, refl, sym, ap, _∙_}
-use mathlib.Core.Bool.{Bool, true, false, cond}
+use mathlib.Core.Path.{_≡_, refl, ap, _∙_}
+use mathlib.Core.Bool.{Bool, cond}
 use mathlib.Core.List.{List}
 use Prim.Native.Nat.{ℕ}
-use Rattle.telegram.specs.Numbers.{Reason, Outcome, refusedFor, done, leaves}
+use Rattle.telegram.specs.Numbers.{Reason, refusedFor, done, leaves}
 use Rattle.capture.specs.State.{State, isLeft}
 use Rattle.capture.specs.Calls.{Given, nexting, Closed, closing}
 use Rattle.reader.specs.Layout.{stateIn}
-use Rattle.reader.specs.Interface.{returned, Called, answering, nextIn, readerNext, Ended, endAnswering, endIn, readerEnd, positionBy, readerPosition}
+use Rattle.reader.specs.Interface.{returned, Called, answering, readerNext, Ended, endAnswering, readerEnd, readerPosition}
 
 module _ (mem chunk : List ℕ) (at room : ℕ) where
   pub next-none : {d : Reason} → stateIn mem ≡ refusedFor d → _≡_ {A = Called} (record { outcome = refusedFor d; memory = mem; at = at }) (readerNext mem chunk at room)

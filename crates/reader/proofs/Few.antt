@@ -15,7 +15,7 @@ use Rattle.telegram.proofs.Outcomes.{never}
 use Rattle.telegram.proofs.Reading.{accepted-count, accepted-size}
 use Rattle.frame.specs.Frame.{Cutting, incomplete, broken, whole, cutting}
 use Rattle.frame.proofs.Fronts.{bytes-append, bytes-take, bytes-drop}
-use Rattle.capture.specs.State.{Standing, going, ended, stoppedFor, stopped, State, padded, carrying, resting, carriedIn, isLeft}
+use Rattle.capture.specs.State.{Standing, going, ended, stoppedFor, stopped, checksumsIn, State, padded, carrying, resting, carriedIn, isLeft}
 use Rattle.capture.specs.Run.{judged, grown, endedBy}
 use Rattle.capture.specs.Calls.{Reply, telegram, more, over, Given, without, nextJudged, nextCut, nextBy, nexting, Closed, closing}
 use Rattle.capture.specs.Uncut.{Taken, Position}
@@ -24,9 +24,9 @@ use Rattle.capture.proofs.Telegrams.{next-state}
 use Rattle.capture.proofs.Taken.{taken-next, taken-end}
 
 -- A state with its twelve bytes: unless it is refused with 11, at most 11 bytes are carried after a call.
-module _ (s : State) (n : length (s .bytes) ≡ 12) (y : Bytes (s .bytes)) where
+module _ (s : State) (n : length (s .bytes) ≡ 12) (y : Bytes (s .bytes)) (z : Bytes (checksumsIn (s .standing))) where
   abbrev taken : isLeft s ≡ true → Taken s
-  taken e = record { long = n; each = y; leaves = e }
+  taken e = record { long = n; each = y; sums = z; leaves = e }
 
   next-few-by : (b : Bool) → isLeft s ≡ b → (c : List ℕ) (at : ℕ) → Bytes c → (nexting c s at .answer ≡ refused 11 → ⊥) → nexting c s at .state .count ≤ 11
   next-few-by true e c at z f = left _ (taken-next c s at (taken e) z .leaves) .few

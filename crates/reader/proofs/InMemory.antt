@@ -24,7 +24,8 @@ use Rattle.reader.specs.Kept.{StateComesBack, HeldStays, TakenIn, replie
 use Rattle.reader.proofs.States.{state-long}
 use Rattle.reader.proofs.Few.{Fits, next-fits, next-position, end-position}
 use Rattle.reader.proofs.Exits.{next-told, end-told, position-by}
-use Rattle.reader.proofs.Back.{state-comes-back, held-stays, held-taken, held-position, kept-taken}
+use Rattle.reader.proofs.Back.{state-comes-back}
+use Rattle.reader.proofs.Holding.{held-stays, held-taken, held-position, kept-taken}
 
 -- Bytes that were written are a telegram, unless they are none.
 one-told : (w : List ℕ) → 1 ≤ length w → toldIn (done w) ≡ w ∷ []
@@ -38,7 +39,7 @@ module _ (s : State) (mem : List ℕ) (k : TakenIn s mem) where
   no-eleven =
       let t = held-taken s mem k in
       let p = held-position s mem k in
-      eleven-exact s (t .long) (t .each) p .1 (taken-is-left s t p)
+      eleven-exact s (t .long) (t .each) (t .sums) p .1 (taken-is-left s t p)
 
   -- A state that was kept.
   module _ (z : State) (t : Taken z) (p : Position (z .position)) where

@@ -1,6 +1,6 @@
 -- The state that memory holds: a law for each answer. Assumes nothing.
-use mathlib.Core.Path.{_≡_, refl, sym, _∙_, ap}
-use mathlib.Core.Bool.{Bool, true, false, not, _&&_}
+use mathlib.Core.Path.{_≡_, refl}
+use mathlib.Core.Bool.{false, _&&_}
 use mathlib.Core.List.{List}
 use Prim.Native.Nat.{ℕ, zero, suc, _≤_, _<_}
 use native.Mathlib.Omega.{arith}
@@ -10,11 +10,11 @@ use lib.ListN.{length, getD}
 use Rattle.telegram.specs.Numbers.{Outcome, refused, done, after}
 use Rattle.telegram.proofs.Outcomes.{passed}
 use Rattle.capture.specs.State.{Standing, State}
-use Rattle.reader.specs.Layout.{standingIn, countIn, positionIn, carriedBytes, stateIn}
+use Rattle.reader.specs.Layout.{standingIn, standsIn, countIn, positionIn, carriedBytes, stateIn}
 
 -- The state with the standing that its first two bytes say.
 abbrev pub standingState : List ℕ → Standing → State
-standingState mem k = record { standing = k; count = countIn k (getD mem 1 0); position = positionIn mem; bytes = carriedBytes mem }
+standingState mem k = record { standing = k; count = countIn k (getD mem 1 0); position = positionIn mem; bytes = carriedBytes k mem }
 
 pub state-short : (mem : List ℕ) → length mem < 21 → refused 11 ≡ stateIn mem
 unfolding stateIn
@@ -22,7 +22,7 @@ state-short mem h = simp (lt-ltb _ _ h)
 
 -- Long enough memory: the first two bytes decide.
 module _ (mem : List ℕ) (h : 21 ≤ length mem) where
-  pub state-by : (o : Outcome Standing) → o ≡ standingIn (getD mem 0 0) (getD mem 1 0)
+  pub state-by : (o : Outcome Standing) → o ≡ standsIn mem
       → after o (λ (k : Standing). done (standingState mem k)) ≡ stateIn mem
   unfolding stateIn
   state-by o e = rw (le-ltb _ _ h, ← e) refl
@@ -44,5 +44,5 @@ outside (suc (suc (suc (suc (suc (suc n)))))) a b c d e =
     let k : ℕ = suc (suc (suc (suc (suc (suc n))))) in
     simp (le-leb 1 k (omega arith), lt-leb k 5 (omega arith))
 
-pub no-standing : (p v : ℕ) → (p ≡ 0 → ⊥) → (p ≡ 1 → ⊥) → (p ≡ 2 → ⊥) → refused 11 ≡ standingIn p v
-no-standing p v a b c = simp (ne-eqb _ _ a, ne-eqb _ _ b, ne-eqb _ _ c)
+pub no-standing : (p v x y : ℕ) → (p ≡ 0 → ⊥) → (p ≡ 1 → ⊥) → (p ≡ 2 → ⊥) → refused 11 ≡ standingIn p v x y
+no-standing p v x y a b c = simp (ne-eqb _ _ a, ne-eqb _ _ b, ne-eqb _ _ c)

@@ -5,14 +5,15 @@ use mathlib.Core.Bool.{cond}
 use mathlib.Core.List.{List, []}
 use lib.Dec.{eqb, ltb}
 use lib.ListN.{length, take}
-use Rattle.telegram.specs.Numbers.{Outcome, refusedFor, done, counted, fitted}
+use Rattle.telegram.specs.Numbers.{Outcome, refusedFor, done, valueOf, counted, fitted}
 use Rattle.capture.specs.State.{State, isLeft}
 use Rattle.capture.specs.Calls.{Reply, telegram, more, over, Given, nexting, closing}
 use Rattle.reader.specs.Layout.{stateIn, holding}
 
--- Number and count in one: number + 256 × count. The number is 0 when done, the count 0 on refusal.
+-- Number and count in one: number + 256 × count, where the number is 0 when done. On a refusal what it carries stands in place of the
+-- count: with 5 the checksum worked out in the second byte and the one received in the third, with any other number nothing.
 abbrev pub packed : Outcome ℕ → ℕ
-packed (refusedFor e) = e .number
+packed (refusedFor e) = valueOf e
 packed (done count) = count * 256
 
 -- What a function returns: its number and the count of the bytes that it wrote.

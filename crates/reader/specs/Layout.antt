@@ -4,24 +4,32 @@ use Prim.Native.Nat.{ℕ, _+_, _*_, _/_, _%_}
 use mathlib.Core.Bool.{cond, not, _&&_}
 use mathlib.Core.List.{List, [], _∷_, _++_}
 use lib.Dec.{eqb, leb, ltb}
-use lib.ListN.{length, getD, take, drop}
-use Rattle.telegram.specs.Numbers.{Outcome, done, refuse, after, front}
-use Rattle.capture.specs.State.{Standing, going, ended, stoppedFor, stopped, standingOf, State, stateOf}
-use Rattle.reader.specs.declared.kept.Begun.{Begun}
+use lib.ListN.{length, getD, take, drop, replicate}
+use Rattle.telegram.specs.Numbers.{Reason, bare, Outcome, done, refuse, after, wrongChecksum, front}
+use Rattle.capture.specs.State.{Standing, going, ended, stoppedFor, checksumsIn, standingOf, State, stateOf}
+use Rattle.reader.specs.declared.found.Begun.{Begun}
 use Rattle.reader.specs.declared.Held.{Held}
 
 -- How many bytes the state has.
 abbrev pub readerSize : ℕ
 readerSize = 21
 
+-- What stopped a reading, by the number and the first two of bytes 10 to 20: with 5 these are the checksum worked out and the one received.
+abbrev pub reasonIn : ℕ → ℕ → ℕ → Reason
+reasonIn n computed received = cond (eqb n 5) (wrongChecksum computed received) (bare n)
+
 -- Byte 0: 0 open, 1 ended, 2 stopped by a refusal, whose number, 1 to 5, is byte 1; 11 for anything else.
-abbrev pub standingIn : ℕ → ℕ → Outcome Standing
-standingIn phase value =
+abbrev pub standingIn : ℕ → ℕ → ℕ → ℕ → Outcome Standing
+standingIn phase value computed received =
     cond (eqb phase 0) (done going)
     (cond (eqb phase 1) (done ended)
     (refuse (not (eqb phase 2)) 11
     (refuse (not (leb 1 value && leb value 5)) 11
-    (done (stopped value)))))
+    (done (stoppedFor (reasonIn value computed received))))))
+
+-- How the reading in memory stands.
+abbrev pub standsIn : List ℕ → Outcome Standing
+standsIn mem = standingIn (getD mem 0 0) (getD mem 1 0) (getD mem 10 0) (getD mem 11 0)
 
 -- Byte 1 of a reading that was not stopped: how many bytes are carried.
 abbrev pub countIn : Standing → ℕ → ℕ
@@ -39,16 +47,16 @@ abbrev pub positionIn : List ℕ → ℕ
 positionIn mem =
     numberIn 0 (getD mem 2 0 ∷ getD mem 3 0 ∷ getD mem 4 0 ∷ getD mem 5 0 ∷ getD mem 6 0 ∷ getD mem 7 0 ∷ getD mem 8 0 ∷ getD mem 9 0 ∷ [])
 
--- Bytes 10 to 20: those that are carried, and zeros; the twelfth place of a state is 0.
-abbrev pub carriedBytes : List ℕ → List ℕ
-carriedBytes mem = take 11 (drop 10 mem) ++ 0 ∷ []
+-- Bytes 10 to 20: those that are carried, and zeros; the twelfth place of a state is 0. Checksums that stand there are not carried.
+abbrev pub carriedBytes : Standing → List ℕ → List ℕ
+carriedBytes k mem = front (replicate (length (checksumsIn k)) 0) (take 11 (drop 10 mem) ++ 0 ∷ [])
 
 -- The state that memory holds: 11 where it is too short, or byte 0 or the number is outside its range.
 unfoldable pub stateIn : List ℕ → Outcome State
 stateIn mem =
     refuse (ltb (length mem) readerSize) 11
-    (after (standingIn (getD mem 0 0) (getD mem 1 0))
-    (λ (k : Standing). done (record { standing = k; count = countIn k (getD mem 1 0); position = positionIn mem; bytes = carriedBytes mem })))
+    (after (standsIn mem)
+    (λ (k : Standing). done (record { standing = k; count = countIn k (getD mem 1 0); position = positionIn mem; bytes = carriedBytes k mem })))
 
 -- Byte 0 of a state, and byte 1.
 abbrev pub standingByte : Standing → ℕ
@@ -70,9 +78,9 @@ positionBytes p =
 abbrev pub stateHead : State → List ℕ
 stateHead s = standingByte (s .standing) ∷ valueByte (s .standing) (s .count) ∷ positionBytes (s .position)
 
--- .. and all of them.
+-- .. and all of them: the bytes that are carried, or the checksums of a reading that 5 stopped, in their place.
 abbrev pub stateBytes : State → List ℕ
-stateBytes s = stateHead s ++ take 11 (s .bytes)
+stateBytes s = stateHead s ++ take 11 (front (checksumsIn (s .standing)) (s .bytes))
 
 -- Memory that holds a state; bytes behind it stay.
 abbrev pub holding : State → List ℕ → List ℕ

@@ -1,130 +1,15 @@
-// The state of a reading in lent memory: twenty-one bytes, read and kept. docs/RECORD.md has the table.
-use crate::Held;
+// The state of a reading kept in lent memory, twenty-one bytes. docs/RECORD.md has the table.
+use crate::found::sums_of;
 use capture::Phase;
 use capture::Reading;
-use telegram::Refusal;
+use telegram::Checksums;
 ghost use mathlib.Core.Path.{_≡_};
-ghost use mathlib.Core.Bool.{not, _&&_};
 ghost use Prim.Native.Nat.{_+_, _%_, _≤_};
 ghost use mathlib.Core.List.{_++_};
-ghost use lib.Dec.{leb};
 ghost use lib.ListN.{length, getD};
-ghost use Rattle.telegram.specs.Numbers.{refused, refuse, done, front};
-ghost use Rattle.capture.specs.State.{going, stopped, standingOf, stateOf};
-ghost use Rattle.reader.specs.Layout.{readerSize, begunAs, standingIn, countIn, positionIn, carriedBytes, heldAs, stateIn, standingByte, valueByte, positionBytes, stateHead, holding};
-
-// How a reading stands, if the first two bytes say it.
-pub(crate) struct Begun {
-    pub valid: bool,
-    pub phase: Phase,
-}
-
-fn stands(phase: Phase) -> Begun
-    ensures { λ r. ⌜ begunAs r ≡ done (standingOf phase) ⌝ }
-{
-    Begun { valid: true, phase }
-}
-
-fn stands_not() -> Begun
-    ensures { λ r. ⌜ begunAs r ≡ refused 11 ⌝ }
-{
-    Begun {
-        valid: false,
-        phase: Phase::Open,
-    }
-}
-
-// A reading that was stopped, by the refusal's number.
-fn stopped_by(number: u8) -> Begun
-    ensures { λ r. ⌜ begunAs r ≡ refuse (not (leb 1 number && leb number 5)) 11 (done (stopped number)) ⌝ }
-{
-    match number {
-        1 => stands(Phase::Stopped(Refusal::TooShort)),
-        2 => stands(Phase::Stopped(Refusal::Preamble)),
-        3 => stands(Phase::Stopped(Refusal::SizeIndex)),
-        4 => stands(Phase::Stopped(Refusal::ByteCount)),
-        5 => stands(Phase::Stopped(Refusal::Checksum)),
-        _ => stands_not(),
-    }
-}
-
-// How a reading stands, by the first two bytes.
-fn standing_in(phase: u8, value: u8) -> Begun
-    ensures { λ r. ⌜ begunAs r ≡ standingIn phase value ⌝ }
-{
-    match phase {
-        0 => stands(Phase::Open),
-        1 => stands(Phase::Ended),
-        2 => stopped_by(value),
-        _ => stands_not(),
-    }
-}
-
-// How many bytes are carried, by the second byte.
-fn count_in(phase: Phase, value: u8) -> usize
-    ensures { λ r. ⌜ r ≡ countIn (standingOf phase) value ⌝ }
-{
-    match phase {
-        Phase::Open => value as usize,
-        Phase::Ended => value as usize,
-        Phase::Stopped(_) => 0,
-    }
-}
-
-// The position in bytes 2 to 9.
-pub(crate) fn position_in(mem: &[u8]) -> u64
-    requires { ⌜ readerSize ≤ length (now mem) ⌝ }
-    ensures { λ r. ⌜ r ≡ positionIn (now (mem .entry)) ⌝ }
-{
-    let a = bits::word(mem[2], mem[3]) as u64;
-    let b = bits::word(mem[4], mem[5]) as u64;
-    let c = bits::word(mem[6], mem[7]) as u64;
-    let d = bits::word(mem[8], mem[9]) as u64;
-    ((a * 65536 + b) * 65536 + c) * 65536 + d
-}
-
-// The bytes carried, in bytes 10 to 20.
-fn carried_in(mem: &[u8]) -> [u8; 12]
-    requires { ⌜ readerSize ≤ length (now mem) ⌝ }
-    ensures { λ r. ⌜ r ≡ carriedBytes (now (mem .entry)) ⌝ }
-{
-    let mut bytes = [0u8; 12];
-    bytes::copy(&mem[10..21], &mut bytes);
-    bytes
-}
-
-fn no_state() -> Held
-    ensures { λ r. ⌜ heldAs r ≡ refused 11 ⌝ }
-{
-    Held {
-        valid: false,
-        reading: capture::resting(Phase::Open, 0),
-    }
-}
-
-// The state that memory holds, if it holds one.
-pub(crate) fn read_state(mem: &[u8]) -> Held
-    ensures { λ r. ⌜ heldAs r ≡ stateIn (now (mem .entry)) ⌝ }
-{
-    if mem.len() < 21 {
-        return no_state();
-    }
-    let value = mem[1];
-    let b = standing_in(mem[0], value);
-    if !b.valid {
-        return no_state();
-    }
-    let phase = b.phase;
-    Held {
-        valid: true,
-        reading: Reading {
-            phase,
-            count: count_in(phase, value),
-            position: position_in(mem),
-            bytes: carried_in(mem),
-        },
-    }
-}
+ghost use Rattle.telegram.specs.Numbers.{front};
+ghost use Rattle.capture.specs.State.{going, checksumsIn, standingOf, stateOf};
+ghost use Rattle.reader.specs.Layout.{readerSize, positionIn, standingByte, valueByte, positionBytes, stateHead, holding};
 
 // Byte 0 of a state.
 fn standing_byte(phase: Phase) -> u8
@@ -207,13 +92,30 @@ fn write_parts(head: &[u8], rest: &[u8], mem: &mut [u8])
     bytes::copy(rest, &mut mem[n..]);
 }
 
+// The bytes that a state carries, or the checksums of a reading that 5 stopped, in their place.
+fn kept_bytes(r: Reading) -> [u8; 12]
+    ensures { λ b. ⌜ b ≡ front (checksumsIn (standingOf (r .phase))) (r .bytes) ⌝ }
+{
+    let phase = r.phase;
+    let mut bytes = r.bytes;
+    let sums = sums_of(phase);
+    match sums {
+        Checksums::Both(computed, received) => {
+            bytes[0] = computed;
+            bytes[1] = received;
+        }
+        Checksums::None => {}
+    }
+    bytes
+}
+
 // Keeps a state in memory; bytes behind it stay.
 pub(crate) fn keep(r: Reading, mem: &mut [u8])
     requires { ⌜ (r .count ≤ 11) × (readerSize ≤ length (now mem)) ⌝ }
     ensures { λ _. ⌜ now (mem .exit) ≡ holding (stateOf r) (now (mem .entry)) ⌝ }
 {
     let head = head_of(r);
-    let bytes = r.bytes;
+    let bytes = kept_bytes(r);
     write_parts(&head, &bytes[..11], mem);
 }
 

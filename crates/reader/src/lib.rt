@@ -1,14 +1,15 @@
 // The reader of a capture over lent memory: document 02, request 01, as C callers use it. What each function returns is a number of the
 // paper and a count in one.
+mod found;
 mod kept;
 mod passing;
 
 use capture::Next;
 use capture::Reading;
 use capture::Step;
+use found::read_state;
 use kept::keep;
 use kept::keep_carried;
-use kept::read_state;
 use passing::pass;
 use passing::read_whole;
 use telegram::Read;
@@ -18,7 +19,7 @@ ghost use mathlib.Core.Bool.{cond};
 ghost use Prim.Native.Nat.{_≤_};
 ghost use lib.Dec.{ltb};
 ghost use lib.ListN.{length, getD, take};
-ghost use Rattle.telegram.specs.Numbers.{numberOf, fitted, leaves};
+ghost use Rattle.telegram.specs.Numbers.{reasonOf, numberOf, valueOf, fitted, leaves};
 ghost use Rattle.capture.specs.State.{going, standingOf, stateOf};
 ghost use Rattle.reader.specs.Layout.{readerSize, positionIn, holding};
 ghost use Rattle.reader.specs.Interface.{returned, keptBy, readerNext, readerEnd, readerPosition};
@@ -71,15 +72,15 @@ fn give(n: Next, total: usize, reader: &mut [u8], at: &mut usize, out: &mut [u8]
 // A refusal: the reader's own is kept in the state, 11 leaves it.
 fn refuse_kept(e: Refusal, reading: Reading, reader: &mut [u8]) -> u32
     requires { ⌜ ((numberOf e ≡ 11 → ⊥) → reading .count ≤ 11) × (readerSize ≤ length (now reader)) ⌝ }
-    ensures { λ r. ⌜ r ≡ numberOf e ⌝ }
+    ensures { λ r. ⌜ r ≡ valueOf (reasonOf e) ⌝ }
     ensures { λ r. ⌜ now (reader .exit) ≡ keptBy (numberOf e) (stateOf reading) (now (reader .entry)) ⌝ }
 {
-    let n = telegram::refusal_number(e);
-    if n == 11 {
-        return 11;
+    let value = telegram::refusal_value(e);
+    if telegram::refusal_number(e) == 11 {
+        return value;
     }
     keep(reading, reader);
-    n as u32
+    value
 }
 
 // The next telegram of a chunk, whatever is carried.

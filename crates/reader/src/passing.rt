@@ -1,7 +1,7 @@
 // The common case of a reader: nothing is carried, and the next telegram lies whole in the chunk. It is given as it lies there, and only
 // the position moves.
+use crate::found::position_in;
 use crate::kept::position_bytes;
-use crate::kept::position_in;
 use telegram::Read;
 use telegram::Refusal;
 ghost use mathlib.Core.Path.{_≡_};

@@ -75,12 +75,12 @@ fn defaults_of(o: Options) -> Defaults {
     }
 }
 
-// Makes the chain. Answers the number of its refusal, 0 for none.
-fn make(mem: &mut [u8], o: Options) -> u8 {
+// Makes the chain. Answers its refusal, 0 for none.
+fn make(mem: &mut [u8], o: Options) -> u32 {
     let made = chain::make(mem, o.lamps as usize, defaults_of(o));
     match made {
         Delivered::Done(_) => 0,
-        Delivered::Refused(e) => telegram::refusal_number(e),
+        Delivered::Refused(e) => telegram::refusal_value(e),
     }
 }
 
@@ -217,9 +217,9 @@ fn show(name: &[u8], o: Options, subcommand: u8, style: Style, look: Look, err: 
     let mut mem = chain_memory();
     let mut page = io::large_buffer();
     let book = words::book();
-    let number = make(&mut mem, o);
-    if number != 0 {
-        complaint::say_refusal(err, subcommand, number);
+    let refusal = make(&mut mem, o);
+    if refusal != 0 {
+        complaint::say_refusal(err, subcommand, refusal);
         return played(script::run_of(Stop::NoChain));
     }
     let p = play(name, o.raw, style, &mut mem, &mut page, &book);

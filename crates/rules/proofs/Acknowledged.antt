@@ -6,7 +6,7 @@ use mathlib.Core.List.{List, [], _∷_}
 use Prim.Native.Nat.{ℕ, suc}
 use lib.Dec.{eqb, leb}
 use Rattle.telegram.specs.Numbers.{Outcome, refused, done}
-use Rattle.telegram.proofs.Outcomes.{done-one}
+use Rattle.telegram.proofs.Outcomes.{either, done-one}
 use Rattle.table.specs.Table.{rowOf, acknowledged, plainNumber, castListed}
 use Rattle.table.specs.declared.Row.{Row}
 use Rattle.table.specs.declared.Cast.{Cast}
@@ -22,7 +22,6 @@ use Rattle.rules.specs.Lamp.{withState, uninitialized, obeys, changedPla
 use Rattle.rules.specs.Chain.{withLamps, Step, onward, ends, Walked, stepped, walk, answerFrom, reaching, isInit, roomSmall, delivering, deliver}
 use Rattle.rules.specs.Lists.{OneLamp}
 use Rattle.rules.specs.Acknowledged.{readTempStatus, ChangesAsPlain, LeavesAsPlain, KeepsFlags, AnswersAfterwards, PassedBy, MayStandInLists}
-use Rattle.rules.proofs.Walks.{either}
 use Rattle.rules.proofs.Deliveries.{plain-walks}
 
 -- An acknowledged command makes of a lamp what its plain form does ..

@@ -10,7 +10,7 @@ use lib.ListN.{length, set, replicate, length-set, length-replicate}
 use borrow.Author.Tests.{le-leb, ne-eqb}
 use Rattle.telegram.specs.Numbers.{Outcome, refusedFor, refused, done, after}
 use Rattle.telegram.specs.declared.Address.{Address}
-use Rattle.telegram.proofs.Outcomes.{done-one, passed, went-on}
+use Rattle.telegram.proofs.Outcomes.{either, done-one, passed, went-on}
 use Rattle.table.specs.declared.Cast.{Cast}
 use Rattle.table.specs.declared.Cast.the-variants.{Everyone, One, Group}
 use Rattle.command.specs.Commands.{Sent, dissecting}
@@ -21,7 +21,7 @@ use Rattle.rules.specs.declared.Lamp.{Lamp}
 use Rattle.rules.specs.Lamp.{blank, member, numberedAs, withCE, sensed}
 use Rattle.rules.specs.Chain.{Chain, withLamps, countRight, addressRight, lampRight, lampsRight, chainRight, fresh, making, walk, reaching, isInit, lastAnswers, initialising, visiting, permitting, firstCE, taken, responding, roomSmall, delivering, deliver, lampIn, sensing}
 use Rattle.rules.specs.Lists.{Delivery, run}
-use Rattle.rules.proofs.Walks.{lampOf, walk-length, Each, walk-each, either, acted-address, sought-address}
+use Rattle.rules.proofs.Walks.{lampOf, walk-length, Each, walk-each, acted-address, sought-address}
 use Rattle.rules.proofs.Deliveries.{permitted, permitted-fits}
 use Rattle.rules.proofs.Starting.{made-fresh}
 

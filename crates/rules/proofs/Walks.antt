@@ -13,7 +13,7 @@ use lib.ListN.{length}
 use borrow.Author.Tests.{eq-eqb, ne-eqb, eqb-true}
 use Rattle.telegram.specs.Numbers.{Outcome, done}
 use Rattle.telegram.specs.declared.Address.{Address}
-use Rattle.telegram.proofs.Outcomes.{never, done-one}
+use Rattle.telegram.proofs.Outcomes.{where-true, either, never, done-one}
 use Rattle.table.specs.Table.{plainNumber}
 use Rattle.table.specs.declared.Cast.the-variants.{One}
 use Rattle.table.proofs.Acknowledged.{plain-reset}
@@ -111,14 +111,6 @@ walk-ended P visit n visits p (x ∷ xs) l =
         let k : suc p + r .0 ≡ p + suc (r .0) = omega arith in
         inr (suc (r .0), (r .1 .0, (r .1 .1 .0, subst (λ (i : ℕ). P i (r .1 .0) (walk visit (suc p) xs .outcome)) k (r .1 .1 .1))))
     go (ends y o) h ih = inr (0, (y, (refl, subst (λ (i : ℕ). P i y o) (sym (add-zero p)) h)))
-
--- What holds of both holds of the one that a test picks; of the first it is asked only where the test is true.
-pub where-true : {A : Type 0} {x y : A} (P : A → Type 0) (b : Bool) → (b ≡ true → P x) → P y → P (cond b x y)
-where-true P true h k = h refl
-where-true P false h k = k
-
-pub either : {A : Type 0} {x y : A} (P : A → Type 0) (b : Bool) → P x → P y → P (cond b x y)
-either P b h k = where-true P b (λ e. h) k
 
 -- What a command may make of a lamp, case by case by the number of its plain form, and that P holds of it.
 pub record Cases (P : Lamp → Type 0) (d : Defaults) (m : Message) (l : Lamp) : Type 0 where

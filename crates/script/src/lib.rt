@@ -83,16 +83,16 @@ pub fn flush_page(out: &[u8], run: Run) -> Run {
     stopped(run, Stop::Unwritten)
 }
 
-// A chain's answer in the first bytes of a room, or the number of its refusal.
+// A chain's answer in the first bytes of a room, or its refusal.
 fn given_of(d: Delivered, answer: [u8; 16]) -> Given {
     match d {
         Delivered::Done(size) => Given {
-            number: 0,
+            refusal: 0,
             answer,
             size,
         },
         Delivered::Refused(e) => Given {
-            number: telegram::refusal_number(e),
+            refusal: telegram::refusal_value(e),
             answer,
             size: 0,
         },
@@ -100,7 +100,7 @@ fn given_of(d: Delivered, answer: [u8; 16]) -> Given {
 }
 
 // Delivers a telegram. Of more than 16 bytes the first 16 are delivered: any of more than 12 is refused for its first three bytes and
-// its count alone, so that the number is the same.
+// its count alone, so that the refusal is the same.
 fn deliver(mem: &mut [u8], s: &[u8]) -> Given {
     let mut room = [0u8; 16];
     let d = chain::deliver(mem, s, &mut room);
@@ -134,7 +134,7 @@ fn gone_on(run: Run, at: usize, refused: bool, either: bool) -> Run {
 fn do_said(line: Line, mem: &mut [u8], out: &mut [u8], style: Style, run: Run, book: &[u8]) -> Run {
     let given = act(mem, line);
     let at = lines::put_line(out, run.at, style, run.line, line, given, book);
-    gone_on(run, at, given.number != 0, lines::is_either(line, given))
+    gone_on(run, at, given.refusal != 0, lines::is_either(line, given))
 }
 
 // Does a line.

@@ -3,3 +3,4 @@ pub mod Keys
 pub mod Table
 pub mod Acknowledged
 pub mod Destinations
+pub mod Rows

@@ -3,3 +3,4 @@ pub mod Reading
 pub mod Front
 pub mod Building
 pub mod RoundTrip
+pub mod Carrying

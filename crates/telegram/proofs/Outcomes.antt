@@ -1,13 +1,21 @@
--- What is known of an order of tests that came out done.
+-- What is known of a choice, and of an order of tests that came out done.
 -- Assumes nothing.
 use mathlib.Core.Path.{_≡_, refl, sym, ap, _∙_}
-use mathlib.Core.Bool.{Bool, true, false}
+use mathlib.Core.Bool.{Bool, true, false, cond}
 use mathlib.Core.List.{List}
 use Prim.Native.Nat.{ℕ, _≤_, _<_}
 use native.Mathlib.Omega.{arith}
 use lib.ListN.{length}
 use borrow.Author.Tests.{lt-ltb, le-ltb}
 use Rattle.telegram.specs.Numbers.{Reason, bare, Outcome, refusedFor, refused, done, refuseFor, refuse, after, fitted, front, leaves}
+
+-- What holds of both holds of the one that a test picks; of the first it is asked only where the test is true.
+pub where-true : {A : Type 0} {x y : A} (P : A → Type 0) (b : Bool) → (b ≡ true → P x) → P y → P (cond b x y)
+where-true P true h k = h refl
+where-true P false h k = k
+
+pub either : {A : Type 0} {x y : A} (P : A → Type 0) (b : Bool) → P x → P y → P (cond b x y)
+either P b h k = where-true P b (λ e. h) k
 
 -- A refusal is never done.
 pub never : {A : Type 0} {e : Reason} {a : A} → _≡_ {A = Outcome A} (refusedFor e) (done a) → ⊥

@@ -4,18 +4,19 @@
 use mathlib.Core.Path.{_≡_, refl, sym, ap, _∙_, subst}
 use mathlib.Core.Bool.{Bool, true, false, cond}
 use mathlib.Core.List.{List}
+use mathlib.Core.Logic.{_≢_}
 use Prim.Native.Nat.{ℕ, _+_, _<_, _≤_}
 use native.Mathlib.Omega.{arith}
 use borrow.Author.Tests.{lt-ltb, le-ltb, eq-eqb, ne-eqb, ltb-false, eqb-true, eqb-false, not-false}
 use lib.Dec.{eqb}
 use lib.ListN.{length}
-use Rattle.telegram.specs.Numbers.{Reason, refusedFor, refused, done, reasonOf}
-use Rattle.telegram.specs.Telegram.{readAs, refusalIn, preambleIn, indexIn, sizeOf, telegramIn, framing, reading, checking, checksumRight, Bytes}
+use Rattle.telegram.specs.Numbers.{Reason, refusedFor, refused, done, wrongChecksum, reasonOf}
+use Rattle.telegram.specs.Telegram.{readAs, refusalIn, preambleIn, indexIn, sizeOf, telegramIn, framing, reading, checking, computedIn, receivedIn, checksumRight, Bytes}
 use Rattle.telegram.specs.declared.Telegram.{Telegram}
 use Rattle.telegram.specs.declared.Refusal.{Refusal}
 use Rattle.telegram.specs.declared.Read.{Read}
 use Rattle.telegram.specs.declared.Read.the-variants.{Refused}
-use Rattle.telegram.proofs.Outcomes.{done-one, passed, went-on}
+use Rattle.telegram.proofs.Outcomes.{never, done-one, refused-one, passed, passed-for, went-on}
 
 pub frame-short : (s : List ℕ) → length s < 4 → refused 1 ≡ framing s
 unfolding framing
@@ -69,21 +70,32 @@ module _ (s : List ℕ) where
   unfolding reading
   read-framed e = simp e
 
-  module _ (t : Telegram) (f : framing s ≡ done t) where
-    pub read-checksum : checksumRight s (t .size) ≡ false → refused 5 ≡ reading s
+  -- Of a frame the two checksums decide.
+  module _ (t : Telegram) (f : framing s ≡ done t) {c r : ℕ} (ec : c ≡ computedIn s (t .size)) (er : r ≡ receivedIn s (t .size)) where
+    pub read-checksum : (c ≡ r → ⊥) → refusedFor (wrongChecksum c r) ≡ reading s
     unfolding reading
-    read-checksum h = simp (f, h)
+    read-checksum h = simp (f, ← ec, ← er, ne-eqb c r h)
 
-    pub read-done : checksumRight s (t .size) ≡ true → done t ≡ reading s
+    pub read-done : c ≡ r → done t ≡ reading s
     unfolding reading
-    read-done h = simp (f, h)
+    read-done h = simp (f, ← ec, ← er, eq-eqb c r h)
+
+-- What a frame has that is refused: two checksums that differ, and the refusal carries them.
+pub read-differs : (s : List ℕ) (t : Telegram) {d : Reason} → framing s ≡ done t → reading s ≡ refusedFor d
+    → (computedIn s (t .size) ≢ receivedIn s (t .size)) × (d ≡ wrongChecksum (computedIn s (t .size)) (receivedIn s (t .size)))
+read-differs s t {d} f e = go (checksumRight s (t .size)) refl
+  where
+    go : (b : Bool) → checksumRight s (t .size) ≡ b
+        → (computedIn s (t .size) ≢ receivedIn s (t .size)) × (d ≡ wrongChecksum (computedIn s (t .size)) (receivedIn s (t .size)))
+    go true q = absurd (never (sym e ∙ sym (read-done s t f refl refl (eqb-true _ _ q))))
+    go false q = (eqb-false _ _ q, refused-one (sym e ∙ sym (read-checksum s t f refl refl (eqb-false _ _ q))))
 
 -- What an accepted telegram has: its frame, and the right checksum.
 pub accepted : (s : List ℕ) (t : Telegram) → reading s ≡ done t → (framing s ≡ done t) × (checksumRight s (t .size) ≡ true)
 unfolding reading
 accepted s t e =
     let g = went-on (framing s) (checking s) e in
-    let p = passed _ _ _ (g .1 .1) in
+    let p = passed-for _ _ _ (g .1 .1) in
     let q : g .0 ≡ t = done-one (p .1) in
     (g .1 .0 ∙ ap done q, subst (λ (u : Telegram). checksumRight s (u .size) ≡ true) q (not-false _ (p .0)))
 

@@ -6,13 +6,13 @@ use mathlib.Core.List.{List, [], _∷_, _++_}
 use Prim.Native.Nat.{ℕ, suc, _+_, _-_, _*_, _/_, _%_, _≤_, _<_}
 use native.Mathlib.Omega.{arith}
 use lib.Dec.{T, eqb, leb, leb→le, eqb→eq, T-not}
-use borrow.Author.Tests.{ne-eqb, eq-eqb, eqb-true}
+use borrow.Author.Tests.{ne-eqb, eqb-true}
 use lib.ListN.{length, take, length-take}
 use lib.Seq.{take-at, getD-at, take-length, take-suc}
 use Rattle.checksum.specs.Checksum.{checksumOf}
 use Rattle.checksum.proofs.Below.{T-left, T-right, T-true, below, at}
 use Rattle.telegram.specs.Numbers.{done}
-use Rattle.telegram.specs.Telegram.{reading, building, telegramOf, unsealed, header, payloadIn, addressIn, indexIn, commandIn, telegramIn, sizeOf, indexOf, listed, checksumRight, Bytes}
+use Rattle.telegram.specs.Telegram.{reading, building, telegramOf, unsealed, header, payloadIn, addressIn, indexIn, commandIn, telegramIn, sizeOf, indexOf, listed, computedIn, receivedIn, checksumRight, Bytes}
 use Rattle.telegram.specs.declared.Telegram.{Telegram}
 use Rattle.telegram.proofs.Reading.{Framed, frame-done, framed, read-done, accepted}
 use Rattle.telegram.proofs.Building.{Sendable, listed-le, telegram-length, build-done, built}
@@ -91,12 +91,12 @@ telegram-reads a c p v =
     let ec : commandIn s ≡ c = omega arith in
     let t : Telegram = record { address = record { 0 = a }; command = c; size = n } in
     let et : telegramIn s ≡ t = cc in
-    let right : checksumRight s n ≡ true =
-    eq-eqb _ _ (ap checksumOf (take-at b (checksumOf b ∷ []) (3 + n) lb) ∙ sym (getD-at b (checksumOf b) [] 0 (3 + n) lb)) in (
+    let right : computedIn s n ≡ receivedIn s n =
+    ap checksumOf (take-at b (checksumOf b ∷ []) (3 + n) lb) ∙ sym (getD-at b (checksumOf b) [] 0 (3 + n) lb) in (
       sym
           (read-done s t
           (sym (frame-done s (omega arith) (omega arith) (λ q. z .five (sym ei ∙ q)) (omega arith)) ∙ ap done et)
-          right),
+          refl refl right),
       take-at p (checksumOf b ∷ []) n refl,
     )
 

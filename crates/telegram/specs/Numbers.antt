@@ -1,12 +1,14 @@
 -- Document 01, "Numbers given back": what a call gives back, and which number each refusal has.
 -- Assumes nothing.
-use Prim.Native.Nat.{ℕ}
+use Prim.Native.Nat.{ℕ, _+_, _*_}
 use mathlib.Core.Bool.{Bool, true, false}
-use mathlib.Core.List.{List, [], _++_}
+use mathlib.Core.List.{List, [], _∷_, _++_}
 use lib.Dec.{ltb}
 use lib.ListN.{length, drop}
 use Rattle.telegram.specs.declared.Refusal.{Refusal}
 use Rattle.telegram.specs.declared.Refusal.the-variants.{TooShort, Preamble, SizeIndex, ByteCount, Checksum, UnknownCommand, CastNotAllowed, PayloadSize, RoomTooSmall, OutOfRange, NoChain, InitPastEnd, NoLamp}
+use Rattle.telegram.specs.declared.Checksums.{Checksums}
+use Rattle.telegram.specs.declared.Checksums.the-variants.{Both, None}
 use Rattle.telegram.specs.declared.Built.{Built}
 use Rattle.telegram.specs.declared.Built.the-variants.{Done, Refused}
 
@@ -42,25 +44,43 @@ abbrev pub after : {A B : Type 0} → Outcome A → (A → Outcome B) → Outcom
 after (refusedFor e) next = refusedFor e
 after (done a) next = next a
 
--- The table: the number of each refusal.
-abbrev pub numberOf : Refusal → ℕ
-numberOf TooShort = 1
-numberOf Preamble = 2
-numberOf SizeIndex = 3
-numberOf ByteCount = 4
-numberOf Checksum = 5
-numberOf UnknownCommand = 6
-numberOf CastNotAllowed = 7
-numberOf PayloadSize = 8
-numberOf RoomTooSmall = 9
-numberOf OutOfRange = 10
-numberOf NoChain = 11
-numberOf InitPastEnd = 12
-numberOf NoLamp = 13
+-- A wrong checksum: 5, with the checksum worked out and the one received.
+abbrev pub wrongChecksum : ℕ → ℕ → Reason
+wrongChecksum computed received = record { number = 5; carries = computed ∷ received ∷ [] }
 
--- The reason of a refusal: its number, and what it carries.
+-- The table: the reason of each refusal. Only 5 carries something.
 abbrev pub reasonOf : Refusal → Reason
-reasonOf e = bare (numberOf e)
+reasonOf TooShort = bare 1
+reasonOf Preamble = bare 2
+reasonOf SizeIndex = bare 3
+reasonOf ByteCount = bare 4
+reasonOf (Checksum computed received) = wrongChecksum computed received
+reasonOf UnknownCommand = bare 6
+reasonOf CastNotAllowed = bare 7
+reasonOf PayloadSize = bare 8
+reasonOf RoomTooSmall = bare 9
+reasonOf OutOfRange = bare 10
+reasonOf NoChain = bare 11
+reasonOf InitPastEnd = bare 12
+reasonOf NoLamp = bare 13
+
+-- The number of a refusal.
+abbrev pub numberOf : Refusal → ℕ
+numberOf e = reasonOf e .number
+
+-- Bytes as a number, low byte first.
+abbrev pub lowFirst : List ℕ → ℕ
+lowFirst [] = 0
+lowFirst (b ∷ l) = b + lowFirst l * 256
+
+-- A reason in one number: its own in the lowest byte, and what it carries in the bytes above.
+abbrev pub valueOf : Reason → ℕ
+valueOf e = lowFirst (e .number ∷ e .carries)
+
+-- The checksums of a refusal as the code gives them.
+abbrev pub checksumsAs : Checksums → List ℕ
+checksumsAs (Both computed received) = computed ∷ received ∷ []
+checksumsAs None = []
 
 -- A builder's answer: its refusal, or done with how many bytes it wrote.
 abbrev pub builtAs : Built → Outcome ℕ

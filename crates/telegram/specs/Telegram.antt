@@ -6,7 +6,7 @@ use mathlib.Core.List.{List, [], _∷_, _++_}
 use lib.Dec.{eqb, ltb, leb}
 use lib.ListN.{length, getD, take, drop}
 use Rattle.checksum.specs.Checksum.{checksumOf}
-use Rattle.telegram.specs.Numbers.{Outcome, refusedFor, done, refuse, after, fitted, reasonOf}
+use Rattle.telegram.specs.Numbers.{Outcome, refusedFor, done, refuseFor, refuse, after, fitted, wrongChecksum, reasonOf}
 use Rattle.telegram.specs.declared.Telegram.{Telegram}
 use Rattle.telegram.specs.declared.Refusal.{Refusal}
 use Rattle.telegram.specs.declared.Refusal.the-variants.{TooShort}
@@ -59,13 +59,21 @@ framing s =
     (refuse (not (eqb (length s) (4 + sizeOf (indexIn s)))) 4
     (done (telegramIn s)))))
 
--- The byte behind the payload is the checksum of all bytes before it.
-abbrev pub checksumRight : List ℕ → ℕ → Bool
-checksumRight s size = eqb (checksumOf (take (3 + size) s)) (getD s (3 + size) 0)
+-- The checksum worked out, of all bytes up to the payload's last, and the one received, the byte behind it.
+abbrev pub computedIn : List ℕ → ℕ → ℕ
+computedIn s size = checksumOf (take (3 + size) s)
 
--- A frame with a wrong checksum: 5.
+abbrev pub receivedIn : List ℕ → ℕ → ℕ
+receivedIn s size = getD s (3 + size) 0
+
+-- The two are the same.
+abbrev pub checksumRight : List ℕ → ℕ → Bool
+checksumRight s size = eqb (computedIn s size) (receivedIn s size)
+
+-- A frame with a wrong checksum: 5, with both.
 abbrev pub checking : List ℕ → Telegram → Outcome Telegram
-checking s t = refuse (not (checksumRight s (t .size))) 5 (done t)
+checking s t =
+    refuseFor (not (checksumRight s (t .size))) (wrongChecksum (computedIn s (t .size)) (receivedIn s (t .size))) (done t)
 
 -- The telegram reader: 1 to 4, then 5.
 unfoldable pub reading : List ℕ → Outcome Telegram

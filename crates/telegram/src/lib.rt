@@ -1,11 +1,17 @@
 // Single telegrams: document 01, "The bytes of a telegram" and "Numbers given back".
+mod refusals;
+
+pub use refusals::checksums_of;
+pub use refusals::refusal_number;
+pub use refusals::refusal_of;
+pub use refusals::refusal_value;
 ghost use mathlib.Core.Path.{_≡_};
 ghost use Prim.Native.Nat.{_+_, _*_, _/_, _%_, _≤_, _<_};
 ghost use mathlib.Core.List.{_++_};
 ghost use lib.ListN.{length, take, drop, set};
 ghost use Rattle.checksum.specs.Checksum.{checksumOf};
-ghost use Rattle.telegram.specs.Numbers.{numberOf, builtAs, counted, front, leaves};
-ghost use Rattle.telegram.specs.Telegram.{readAs, refusalIn, indexFrom, sizeOf, framing, reading, checksumRight, header, listed, indexOf, telegramOf, building};
+ghost use Rattle.telegram.specs.Numbers.{builtAs, counted, front, leaves};
+ghost use Rattle.telegram.specs.Telegram.{readAs, indexFrom, sizeOf, framing, reading, computedIn, receivedIn, header, listed, indexOf, telegramOf, building};
 
 // An address on the chain, of 10 bits. A lamp's place in the chain is another kind of number, with a type of its own.
 pub struct Address(pub u16);
@@ -17,13 +23,13 @@ pub struct Telegram {
     pub size: usize,
 }
 
-// The refusals of document 01 in the order of their numbers, 1 to 13.
+// The refusals of document 01 in the order of their numbers, 1 to 13. A wrong checksum has the one worked out and the one received.
 pub enum Refusal {
     TooShort,
     Preamble,
     SizeIndex,
     ByteCount,
-    Checksum,
+    Checksum(u8, u8),
     UnknownCommand,
     CastNotAllowed,
     PayloadSize,
@@ -32,6 +38,12 @@ pub enum Refusal {
     NoChain,
     InitPastEnd,
     NoLamp,
+}
+
+// The checksums that a refusal has: the one worked out and the one received, or none.
+pub enum Checksums {
+    Both(u8, u8),
+    None,
 }
 
 // What the reader answers.
@@ -44,37 +56,6 @@ pub enum Read {
 pub enum Built {
     Done(usize),
     Refused(Refusal),
-}
-
-// The number of a refusal.
-pub fn refusal_number(e: Refusal) -> u8
-    ensures { λ n. ⌜ n ≡ numberOf e ⌝ }
-{
-    match e {
-        Refusal::TooShort => 1,
-        Refusal::Preamble => 2,
-        Refusal::SizeIndex => 3,
-        Refusal::ByteCount => 4,
-        Refusal::Checksum => 5,
-        Refusal::UnknownCommand => 6,
-        Refusal::CastNotAllowed => 7,
-        Refusal::PayloadSize => 8,
-        Refusal::RoomTooSmall => 9,
-        Refusal::OutOfRange => 10,
-        Refusal::NoChain => 11,
-        Refusal::InitPastEnd => 12,
-        Refusal::NoLamp => 13,
-    }
-}
-
-// The refusal in the reader's answer, to pass it on whole. (An accepted telegram, of which nothing asks, gives 1.)
-pub fn refusal_of(r: Read) -> Refusal
-    ensures { λ e. ⌜ e ≡ refusalIn r ⌝ }
-{
-    match r {
-        Read::Refused(e) => e,
-        Read::Accepted(_) => Refusal::TooShort,
-    }
 }
 
 // The size index in bytes 1 and 2.
@@ -129,18 +110,24 @@ pub fn read_frame(s: &[u8]) -> Read
     })
 }
 
-// Whether the byte behind a payload of `size` bytes is the checksum of all bytes before it.
-fn checksum_right(s: &[u8], size: usize) -> bool
+// The checksum of all bytes up to the last of a payload of `size` bytes.
+fn computed_in(s: &[u8], size: usize) -> u8
     requires { ⌜ 3 + size < length (now s) ⌝ }
-    ensures { λ r. ⌜ r ≡ checksumRight (now (s .entry)) size ⌝ }
+    ensures { λ r. ⌜ r ≡ computedIn (now (s .entry)) size ⌝ }
 {
     let last = 3 + size;
-    let received = s[last];
-    let computed = checksum::checksum(&s[..last]);
-    computed == received
+    checksum::checksum(&s[..last])
 }
 
-// The telegram in a slice that has just its bytes. Refusals 1 to 5.
+// The byte behind a payload of `size` bytes.
+fn received_in(s: &[u8], size: usize) -> u8
+    requires { ⌜ 3 + size < length (now s) ⌝ }
+    ensures { λ r. ⌜ r ≡ receivedIn (now (s .entry)) size ⌝ }
+{
+    s[3 + size]
+}
+
+// The telegram in a slice that has just its bytes. Refusals 1 to 5, which has both checksums.
 pub fn read_telegram(s: &[u8]) -> Read
     ensures { λ r. ⌜ readAs r ≡ reading (now (s .entry)) ⌝ }
 {
@@ -149,8 +136,10 @@ pub fn read_telegram(s: &[u8]) -> Read
         return frame;
     };
     let size = t.size;
-    if !checksum_right(s, size) {
-        return Read::Refused(Refusal::Checksum);
+    let computed = computed_in(s, size);
+    let received = received_in(s, size);
+    if computed != received {
+        return Read::Refused(Refusal::Checksum(computed, received));
     }
     Read::Accepted(t)
 }

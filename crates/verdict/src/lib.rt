@@ -3,29 +3,29 @@ use answer::AnswerDissection;
 use command::Dissection;
 use words::Message;
 
-// A command, an answer, either of them, or the numbers of its refusals as a command and as an answer.
+// A command, an answer, either of them, or its refusals as a command and as an answer, as `telegram::refusal_value` has them.
 pub enum Verdict {
     Sent,
     Given,
     Either,
-    Refused(u8, u8),
+    Refused(u32, u32),
 }
 
-// The number of a telegram's refusal as a command, 0 for none.
-fn number_sent(s: &[u8]) -> u8 {
+// A telegram's refusal as a command, 0 for none.
+fn refusal_sent(s: &[u8]) -> u32 {
     let d = command::dissect(s);
     match d {
         Dissection::Accepted(_) => 0,
-        Dissection::Refused(e) => telegram::refusal_number(e),
+        Dissection::Refused(e) => telegram::refusal_value(e),
     }
 }
 
-// The number of its refusal as an answer.
-fn number_given(s: &[u8]) -> u8 {
+// Its refusal as an answer.
+fn refusal_given(s: &[u8]) -> u32 {
     let d = answer::dissect_answer(s);
     match d {
         AnswerDissection::Accepted(_) => 0,
-        AnswerDissection::Refused(e) => telegram::refusal_number(e),
+        AnswerDissection::Refused(e) => telegram::refusal_value(e),
     }
 }
 
@@ -36,11 +36,11 @@ fn is_acknowledged(s: &[u8]) -> bool {
 
 // What the bytes of one telegram are.
 pub fn judge(s: &[u8]) -> Verdict {
-    let sent = number_sent(s);
+    let sent = refusal_sent(s);
     if bits::and(sent == 0, !is_acknowledged(s)) {
         return Verdict::Sent;
     }
-    let given = number_given(s);
+    let given = refusal_given(s);
     if bits::and(sent == 0, given == 0) {
         return Verdict::Either;
     }

@@ -9,6 +9,8 @@ pub use names::Named;
 pub use names::command_named;
 pub use names::name_size;
 pub use names::row_of;
+pub use reasons::computed_in;
+pub use reasons::number_in;
 use table::Cast;
 use table::Destination;
 use telegram::Address;

@@ -1,5 +1,5 @@
 // The names of things, by their numbers, and what a letter in a form stands for.
-use crate::reasons::put_reason;
+use crate::reasons::put_refusal;
 use crate::texts::NAMES_AT;
 use text::put;
 
@@ -259,9 +259,9 @@ fn put_plural(out: &mut [u8], at: usize, n: u64) -> usize {
     text::put_byte(out, at, b's')
 }
 
-// Appends what a letter in a form stands for. d is a number in decimal; for digits, names and lists see above; r is a refusal's reason;
-// p the s of a plural; x and X are the bytes, without and with a space before each, t the bytes as text; > spaces up to a column of the
-// line that began at `start`; _ and ^ a character so many times. Any other letter is nothing.
+// Appends what a letter in a form stands for. d is a number in decimal; for digits, names and lists see above, for r, R and N
+// `put_refusal`; p is the s of a plural; x and X are the bytes, without and with a space before each, t the bytes as text; > spaces up to
+// a column of the line that began at `start`; _ and ^ a character so many times. Any other letter is nothing.
 pub(crate) fn put_code(
     out: &mut [u8],
     at: usize,
@@ -276,7 +276,7 @@ pub(crate) fn put_code(
         b'5' | b'w' | b'a' | b'b' | b'h' => put_digits(out, at, letter, n),
         b'c' | b's' | b'm' | b'o' | b'S' | b'M' | b'O' => put_named(out, at, book, letter, n),
         b'n' | b'f' | b'F' | b'g' | b'G' => put_list(out, at, book, letter, n),
-        b'r' => put_reason(out, at, (n % 256) as u8),
+        b'r' | b'R' | b'N' => put_refusal(out, at, letter, (n % 4294967296) as u32),
         b'p' => put_plural(out, at, n),
         b'x' => text::put_all_hex(out, at, s),
         b'X' => text::put_spaced_hex(out, at, s),

@@ -109,7 +109,7 @@ fn put_forms(out: &mut [u8]) -> usize {
 %a answers %c%;                                               |
 tx%X ..%>%;                                                   |
 \nrx%X%>%;                                                     |
-line %d: refused %d: %r\n%;                                    |
+line %d: %r\n%;                                                |
 sensor %d %b %d%>%;                                           |
 place %d: temperature %b, sets no flag\n%;                     |
 place %d: temperature %b, sets %f\n%;                          |
@@ -122,12 +122,12 @@ place %d: temperature %b, sets %f\n%;                          |
 ,\"rx\":null}\n%;                                                |
 ,\"rx\":\"%x\"%;                                                  |
 ,\"address\":%d,\"answer\":\"%x\"}\n%;                               |
-,\"number\":%d,\"refusal\":\"%r\"}\n%;                               |
+,%R}\n%;                                                       |
 ,\"number\":0}\n%;                                               |
-position %d: refused %d: %r\n%;                                |
+position %d: %r\n%;                                            |
 {\"position\":%d,\"tx\":\"%x\"%;                                    |
-capture stopped at position %d: refused %d: %r\n%;             |
-{\"stopped\":%d,\"number\":%d,\"refusal\":\"%r\"}\n%;                  |
+capture stopped at position %d: %r\n%;                         |
+{\"stopped\":%d,%R}\n%;                                          |
  (or an answer of %a; done as a command)%;                    |
 ,\"either\":true%;                                              |
  %X%>%;                                                       |

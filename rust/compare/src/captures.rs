@@ -69,10 +69,10 @@ pub fn capture(random: &mut Random) -> Vec<u8> {
     [telegrams(random.below(7), random), tail(random)].concat()
 }
 
-/// The end of a capture: mostly nothing, else what is not whole, or stops the
+/// The end of a capture: often nothing, else what is not whole, or stops the
 /// reading and has more telegrams behind it.
 pub fn tail(random: &mut Random) -> Vec<u8> {
-    let mut tail = match random.below(8) {
+    let mut tail = match random.below(9) {
         0 => damaged(random),
         1 => {
             let size = random.below(16);
@@ -84,6 +84,7 @@ pub fn tail(random: &mut Random) -> Vec<u8> {
             telegram.truncate(random.below(telegram.len()));
             return telegram;
         }
+        4 => unsealed(random),
         _ => return Vec::new(),
     };
     tail.extend(telegrams(random.below(3), random));
@@ -131,9 +132,10 @@ pub fn chunks<'a>(run: &'a [u8], random: &mut Random) -> Vec<&'a [u8]> {
 /// Some state, mostly one that a reading leaves.
 pub fn any_state(random: &mut Random) -> Vec<u8> {
     let position = position(random);
-    let mut bytes = match random.below(6) {
+    let mut bytes = match random.below(8) {
         0 => state(ENDED, 0, position, &[]),
-        1 => state(STOPPED, random.between(1, 5) as u8, position, &[]),
+        1 => state(STOPPED, random.between(1, 4) as u8, position, &[]),
+        2 | 3 => stopped_by_5(random),
         _ => {
             let telegram = good(random);
             open(position, &telegram[..random.below(telegram.len())])
@@ -145,6 +147,19 @@ pub fn any_state(random: &mut Random) -> Vec<u8> {
         _ => {}
     }
     bytes
+}
+
+/// A state that looks as if 5 had stopped it: mostly with two checksums that differ
+/// and zeros behind them, sometimes with equal ones, or with something behind them.
+pub fn stopped_by_5(random: &mut Random) -> Vec<u8> {
+    let mut carried = [0; LENGTH - CARRIED];
+    [carried[0], carried[1]] = [random.byte(), random.byte()];
+    match random.below(6) {
+        0 => carried[1] = carried[0],
+        1 => carried[2 + random.below(LENGTH - CARRIED - 2)] = random.byte(),
+        _ => {}
+    }
+    state(STOPPED, 5, position(random), &carried)
 }
 
 /// Changes a state, mostly into one that no reading leaves.

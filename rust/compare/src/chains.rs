@@ -131,8 +131,7 @@ pub fn any_telegram(record: &[u8], random: &mut Random) -> Vec<u8> {
         11 | 12 => good(random),
         13 => {
             let mut bytes = command_for(record, random);
-            let last = bytes.len() - 1;
-            bytes[last] ^= random.between(1, 255) as u8;
+            unseal(&mut bytes, random);
             bytes
         }
         _ => {

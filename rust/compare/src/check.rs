@@ -1,14 +1,23 @@
 //! One call on both sides, and its comparison.
+//!
+//! - [`told`]: the text of a difference.
+//! - [`wrong`]: the refusals with 5 that were compared.
+
+mod told;
+mod wrong;
 
 use crate::arena::Arena;
-use crate::chains::{lamps, slot, SLOT};
+use crate::chains::{lamps, slot};
 use crate::library::LIBRARY;
 use crate::random::Random;
 use reference::capture::reader;
 use reference::case::{Call, Case};
-use reference::wire::REFERENCE;
-use std::fmt::Write;
+use reference::wire::{count, number, REFERENCE};
 use std::ops::Range;
+use told::{describe, describe_records, shown};
+use wrong::Wrong;
+
+pub use told::{hex, input, value_text};
 
 /// The functions in the order in which they are counted.
 pub const FUNCTIONS: [&str; 15] = [
@@ -28,9 +37,6 @@ pub const FUNCTIONS: [&str; 15] = [
     "osp_reader_end",
     "osp_reader_position",
 ];
-
-/// The most slots of a record that a report shows.
-const SHOWN: usize = 9;
 
 /// The place of a call's function among the counted ones.
 fn function(call: &Call) -> usize {
@@ -57,7 +63,7 @@ fn function(call: &Call) -> usize {
 pub struct Agreed {
     /// The result as it was given back, and the number in it.
     pub result: u64,
-    pub number: u64,
+    pub number: u32,
     pub written: Vec<u8>,
     /// Where a reader stands in its chunk.
     pub at: usize,
@@ -70,6 +76,7 @@ pub struct Checker {
     round_trips: u64,
     captures: u64,
     acknowledged: u64,
+    wrong: Wrong,
 }
 
 impl Checker {
@@ -81,6 +88,7 @@ impl Checker {
             round_trips: 0,
             captures: 0,
             acknowledged: 0,
+            wrong: Wrong::default(),
         }
     }
 
@@ -90,7 +98,7 @@ impl Checker {
     }
 
     /// Compares one call on a record, which is left as both sides left it: the
-    /// number, the count and every byte of the memory. Gives what was agreed
+    /// whole value given back and every byte of the memory. Gives what was agreed
     /// on, or the text of the difference.
     pub fn compare_on(&mut self, record: &mut [u8], case: &Case) -> Result<Agreed, String> {
         let before = Arena::new(case, record, &mut self.guards);
@@ -111,6 +119,7 @@ impl Checker {
             let fault = format!("the index between its guards is {is:X?}, should be {should:X?}");
             (fault, None)
         } else {
+            self.wrong.count(case, record, given as u32);
             record.copy_from_slice(theirs.record());
             return Ok(agreed(case, given, &theirs));
         };
@@ -182,22 +191,25 @@ impl Checker {
     pub fn acknowledged(&self) -> u64 {
         self.acknowledged
     }
+
+    /// The refusals with 5.
+    pub fn wrong(&self) -> &Wrong {
+        &self.wrong
+    }
 }
 
 /// How many bytes of the room a call may have written.
 fn written(case: &Case, result: u64) -> usize {
-    let (number, count) = (result % 256, result / 256);
-    if number == 0 && !case.call.is_plain() {
-        count as usize
-    } else {
-        0
+    match case.call.is_plain() {
+        true => 0,
+        false => count(result as u32),
     }
 }
 
 /// Which bytes of the record a call may have changed.
 fn touched(case: &Case, result: u64, record: &[u8]) -> Range<usize> {
     let status = |place| slot(place) + 2;
-    match (case.call, result % 256) {
+    match (case.call, number(result as u32)) {
         (Call::Make { count, .. }, 0) => 0..slot(count as usize),
         (Call::Deliver, 0) => slot(0)..slot(lamps(record)),
         (Call::Deliver, 5) => status(0)..status(0) + 1,
@@ -212,105 +224,8 @@ fn agreed(case: &Case, result: u64, arena: &Arena) -> Agreed {
     let (count, [_, at, _]) = (written(case, result), arena.index());
     Agreed {
         result,
-        number: result % 256,
+        number: number(result as u32),
         written: arena.room().iter().take(count).copied().collect(),
         at,
     }
-}
-
-/// The text of a difference.
-fn describe(case: &Case, fault: &str, library: (u64, &Arena), reference: (u64, &Arena)) -> String {
-    let mut text = format!("{fault}: {}\n", input(case));
-    for (side, (result, arena)) in [("library", library), ("reference", reference)] {
-        let (number, count) = (result % 256, result / 256);
-        let room = hex(arena.room());
-        let _ = writeln!(
-            text,
-            "  {side:9} number {number}, count {count}, room {room}"
-        );
-    }
-    text
-}
-
-/// The parts of a record that a report shows: the header, and the first slots
-/// or the one with the difference.
-fn shown(record: &[u8], at: Option<usize>) -> Vec<Range<usize>> {
-    let slots = record.len().saturating_sub(slot(0)).div_ceil(SLOT);
-    let place = at.unwrap_or(0).saturating_sub(slot(0)) / SLOT;
-    let places = if slots > SHOWN && place >= SHOWN {
-        place..place + 1
-    } else {
-        0..slots.min(SHOWN)
-    };
-    let parts = places.map(|place| slot(place)..slot(place + 1));
-    std::iter::once(0..slot(0))
-        .chain(parts)
-        .map(|part| part.start.min(record.len())..part.end.min(record.len()))
-        .filter(|part| !part.is_empty())
-        .collect()
-}
-
-/// Parts of the record before the call, and behind it on both sides.
-fn describe_records(
-    parts: &[Range<usize>],
-    before: &Arena,
-    library: &Arena,
-    reference: &Arena,
-) -> String {
-    let mut text = String::new();
-    if !parts.is_empty() {
-        let _ = writeln!(text, "  memory of {} bytes", before.record().len());
-    }
-    for part in parts {
-        for (name, arena) in [
-            ("before", before),
-            ("library", library),
-            ("reference", reference),
-        ] {
-            let bytes = hex(&arena.record()[part.clone()]);
-            let _ = writeln!(text, "  record from {:5} {name:9} {bytes}", part.start);
-        }
-    }
-    text
-}
-
-/// The function of a case and all that is given to it.
-pub fn input(case: &Case) -> String {
-    let name = FUNCTIONS[function(&case.call)];
-    let numbers = match case.call {
-        Call::Build { address, command } => format!(" address {address} command {command}"),
-        Call::BuildCommand {
-            command,
-            cast,
-            value,
-        } => format!(" command {command} cast {cast} value {value}"),
-        Call::BuildPwm {
-            cast,
-            value,
-            modes,
-            duties,
-        } => format!(" cast {cast} value {value} modes {modes} duties {duties:?}"),
-        Call::RecordLen { count } => format!(" count {count}"),
-        Call::Make {
-            count,
-            setup,
-            thresholds,
-        } => format!(" count {count} setup {setup} thresholds {thresholds:?}"),
-        Call::Sense {
-            place,
-            temperature,
-            faults,
-        } => format!(" place {place} temperature {temperature} faults {faults}"),
-        Call::Lamp { place } => format!(" place {place}"),
-        Call::Next { at } => format!(" at {at}"),
-        _ => String::new(),
-    };
-    let (size, room, bytes) = (case.bytes.len(), case.room, hex(&case.bytes));
-    format!("{name}{numbers} room {room} bytes ({size}) {bytes}")
-}
-
-/// Bytes in hex, with spaces between.
-pub fn hex(bytes: &[u8]) -> String {
-    let pairs: Vec<String> = bytes.iter().map(|byte| format!("{byte:02X}")).collect();
-    pairs.join(" ")
 }

@@ -3,7 +3,7 @@
 //! The second implementation itself works on the joined bytes.
 
 use reference::capture::reader::LENGTH;
-use reference::telegram::{checksum, has_preamble, Header, FRAME, LONGEST};
+use reference::telegram::{has_preamble, verify, Header, FRAME, LONGEST};
 use reference::wire::{packed, Side, REFERENCE};
 use reference::Refusal;
 
@@ -51,19 +51,24 @@ fn phase(state: &State) -> Result<Phase, Refusal> {
             Ok(Phase::Open { count, goal })
         }
         (1, 0) if are_zeros(state, 0) => Ok(Phase::Ended),
-        (2, 1..=5) if are_zeros(state, 0) => Err(stopped(number)),
+        (2, _) => Err(stopped(state)),
         _ => Err(Refusal::Chain),
     }
 }
 
-/// The refusal with a number from 1 to 5.
-fn stopped(number: u8) -> Refusal {
-    match number {
-        1 => Refusal::TooShort,
-        2 => Refusal::Preamble,
-        3 => Refusal::SizeIndex,
-        4 => Refusal::ByteCount,
-        _ => Refusal::Checksum,
+/// What stopped a reader, or 11. Of 5 two checksums are kept, which differ.
+#[cold]
+fn stopped(state: &State) -> Refusal {
+    let [computed, received, ..] = *carried(state);
+    match (state[1], are_zeros(state, 0)) {
+        (1, true) => Refusal::TooShort,
+        (2, true) => Refusal::Preamble,
+        (3, true) => Refusal::SizeIndex,
+        (4, true) => Refusal::ByteCount,
+        (5, _) if are_zeros(state, 2) && computed != received => {
+            Refusal::Checksum { computed, received }
+        }
+        _ => Refusal::Chain,
     }
 }
 
@@ -96,10 +101,7 @@ fn goal(bytes: &[u8; CARRIED], count: usize) -> Option<usize> {
 /// Tests the checksum of a whole telegram and copies it into the room.
 #[inline]
 fn give(telegram: &[u8], room: &mut [u8]) -> Result<(), Refusal> {
-    match telegram {
-        [body @ .., last] if checksum(body) == *last => {}
-        _ => return Err(Refusal::Checksum),
-    }
+    verify(telegram)?;
     let out = room.get_mut(..telegram.len()).ok_or(Refusal::Room)?;
     out.copy_from_slice(telegram);
     Ok(())
@@ -130,7 +132,9 @@ fn put(state: &mut State, phase: u8, number: u8, carried: &[u8; CARRIED]) {
 #[cold]
 fn stop(state: &mut State, refusal: Refusal) -> Refusal {
     if refusal != Refusal::Room {
-        put(state, 2, refusal as u8, &NONE);
+        let mut kept = NONE;
+        [kept[0], kept[1]] = refusal.checksums().unwrap_or_default();
+        put(state, 2, refusal.number(), &kept);
     }
     refusal
 }
@@ -233,13 +237,15 @@ fn position(memory: &[u8]) -> u64 {
 mod tests {
     use crate::capture_suites::CAPTURE_SUITES;
     use crate::check::Checker;
+    use crate::checksum_suites::CHECKSUM_SUITES;
     use crate::random::Random;
 
     #[test]
     fn it_reads_as_the_second_implementation_does() {
         let (mut check, mut random) = (Checker::new(1), Random::new(1));
-        for suite in CAPTURE_SUITES {
+        for suite in CAPTURE_SUITES.into_iter().chain(CHECKSUM_SUITES) {
             assert_eq!(suite(&mut check, &mut random), Ok(()));
         }
+        assert_eq!(check.wrong().demand(), Ok(()));
     }
 }

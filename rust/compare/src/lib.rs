@@ -11,6 +11,7 @@
 //!   forms.
 //! - [`captures`]: captures, how they are cut, and states of their reader.
 //! - [`capture_suites`]: the calls on the reader of captures that are compared.
+//! - [`checksum_suites`]: wrong checksums through all calls that read a telegram.
 //! - [`lists`]: demand 3 of document 01, tried on the library alone.
 //! - [`scripts`]: scripts for the replay.
 //! - [`raw`]: raw captures for the tool.
@@ -30,6 +31,7 @@ pub mod captures;
 pub mod chain_suites;
 pub mod chains;
 pub mod check;
+pub mod checksum_suites;
 pub mod incremental;
 #[cfg_attr(feature = "self-test", path = "stand_in.rs")]
 pub mod library;

@@ -12,6 +12,7 @@ use crate::library::LIBRARY;
 use crate::material::fitting;
 use crate::random::Random;
 use deliveries::{any_list, deliver, same, telegram_text, Delivery, Given};
+use reference::wire::{count, number};
 use std::collections::BTreeSet;
 
 /// What an unwritten byte of a room or behind a record holds.
@@ -101,7 +102,7 @@ impl Start {
         let init = fitting(self.first, self.init, &[]);
         let numbered = (LIBRARY.deliver)(&mut record, &init, &mut [FILL; 12]);
         tally.deliveries += 1;
-        if [made % 256, numbered % 256] != [0, 0] {
+        if [made, numbered].map(number) != [0, 0] {
             return Err("the chain is not made and numbered".to_string());
         }
         Ok(record)
@@ -155,7 +156,7 @@ impl Start {
     ) -> Result<Given, String> {
         if self.owner(delivery).is_some() {
             let given = deliver(record, delivery, tally);
-            let answered = given.result > 255;
+            let answered = count(given.result) > 0;
             tally.acknowledged += u64::from(delivery.is_acknowledged() && answered);
             return Ok(given);
         }

@@ -1,8 +1,14 @@
 //! Good telegrams of every kind, and damage to them.
+//!
+//! - [`cases`]: cases of the functions that take and build them.
+
+mod cases;
 
 use crate::random::Random;
-use reference::case::{Call, Case};
+use reference::case::Call;
 use reference::telegram::{checksum, LONGEST};
+
+pub use cases::*;
 
 /// A known command: its number, the bytes it carries and those of its answer.
 #[derive(Clone, Copy)]
@@ -257,48 +263,26 @@ pub fn seal(bytes: &mut [u8]) {
     }
 }
 
+/// Makes the last byte any other one.
+pub fn unseal(bytes: &mut [u8], random: &mut Random) {
+    if let Some(last) = bytes.last_mut() {
+        *last ^= random.between(1, 255) as u8;
+    }
+}
+
+/// A telegram whose only fault is its checksum.
+pub fn unsealed(random: &mut Random) -> Vec<u8> {
+    let mut bytes = good(random);
+    unseal(&mut bytes, random);
+    bytes
+}
+
 /// A room: often wide enough for all, else anything from 0 to 16.
 pub fn room(random: &mut Random) -> usize {
     match random.below(2) {
         0 => LONGEST + 8,
         _ => random.below(17),
     }
-}
-
-/// A case of a function that takes a telegram.
-pub fn reading(call: Call, bytes: &[u8], room: usize) -> Case {
-    Case {
-        call,
-        bytes: bytes.to_vec(),
-        room,
-    }
-}
-
-/// A case of the raw builder.
-pub fn building(address: u32, command: u32, payload: &[u8], room: usize) -> Case {
-    reading(Call::Build { address, command }, payload, room)
-}
-
-/// A case of the command builder.
-pub fn commanding(command: u32, cast: u32, value: u32, payload: &[u8], room: usize) -> Case {
-    let call = Call::BuildCommand {
-        command,
-        cast,
-        value,
-    };
-    reading(call, payload, room)
-}
-
-/// A case of the builder of SETPWM; the destination is cast and value.
-pub fn lighting(destination: (u32, u32), modes: u32, duties: [u32; 3], room: usize) -> Case {
-    let (cast, value) = destination;
-    let call = Call::BuildPwm {
-        cast,
-        value,
-        modes,
-        duties,
-    };
-    reading(call, &[], room)
 }
 
 /// The six bytes that three duties and their modes stand for.

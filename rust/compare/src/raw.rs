@@ -7,7 +7,7 @@ use crate::material::*;
 use crate::random::Random;
 use crate::scripts::{made, refused};
 use reference::replay::Options;
-use reference::wire::REFERENCE;
+use reference::wire::{count, REFERENCE};
 
 /// Lengths around that of what a program may read at once.
 const LENGTHS: [usize; 7] = [4095, 4096, 4097, 65_535, 65_536, 65_537, 131_072];
@@ -21,7 +21,7 @@ pub fn edges(random: &mut Random) -> Vec<Vec<u8>> {
     for size in SIZES {
         let whole = fitting(address(random), random.between(0, 127), &random.bytes(size));
         let mut damaged = whole.clone();
-        damaged[size + 3] ^= random.between(1, 255) as u8;
+        unseal(&mut damaged, random);
         ends.extend([whole, damaged]);
     }
     ends.extend(either(random));
@@ -54,7 +54,7 @@ fn either(random: &mut Random) -> [Vec<u8>; 5] {
     let [short, whole, long] =
         [1, 2, 3].map(|size| fitting(lamp(random), SETMULT_SR, &random.bytes(size)));
     let mut damaged = whole.clone();
-    damaged[5] ^= random.between(1, 255) as u8;
+    unseal(&mut damaged, random);
     let numbered = [
         fitting(1, INITBIDIR, &[]),
         fitting(1, SETMULT_SR, &[0, 0x40]),
@@ -107,6 +107,6 @@ pub fn board(options: &Options, count: usize, random: &mut Random) -> Vec<u8> {
 /// The answer to a telegram, or no bytes.
 fn delivered(record: &mut [u8], telegram: &[u8]) -> Vec<u8> {
     let mut room = [0; 12];
-    let count = (REFERENCE.deliver)(record, telegram, &mut room) / 256;
-    room[..count as usize].to_vec()
+    let count = count((REFERENCE.deliver)(record, telegram, &mut room));
+    room[..count].to_vec()
 }

@@ -79,6 +79,9 @@ pub fn anything(check: &mut Checker, random: &mut Random) -> Outcome {
     for _ in 0..random.below(4) {
         damage(&mut bytes, random);
     }
+    if random.below(4) == 0 {
+        unseal(&mut bytes, random);
+    }
     readers(check, &bytes, room(random))?;
     check.compare(&reading(Call::Checksum, &bytes, 0))?;
     let length = random.below(13);

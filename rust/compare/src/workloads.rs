@@ -9,7 +9,7 @@ use crate::material::{CLRERROR, GOACTIVE, GOACTIVE_SR, INITBIDIR, RESET, SETMULT
 use crate::material::{READSTATUS, READTEMPST};
 use crate::random::Random;
 use reference::capture::reader::LENGTH;
-use reference::wire::{Side, REFERENCE};
+use reference::wire::{count, number, Side, REFERENCE};
 use std::hint::black_box;
 use std::iter;
 use std::time::Instant;
@@ -67,9 +67,9 @@ fn read_capture(side: &Side, run: &[u8], size: usize, mut take: impl FnMut(&[u8]
         let mut at = 0;
         while at < chunk.len() {
             let result = (side.reader_next)(&mut state, chunk, &mut at, &mut room);
-            match (result % 256, result / 256) {
+            match (number(result), count(result)) {
                 (0, 0) => break,
-                (0, count) => take(&room[..count as usize]),
+                (0, count) => take(&room[..count]),
                 (number, _) => return number,
             }
         }
@@ -169,10 +169,10 @@ fn chain(count: usize) -> Vec<u8> {
     let mut record = vec![0; slot(count)];
     let side = &REFERENCE;
     let made = (side.make)(&mut record, count as u32, 0x13, 0x03, 0xE6, 0xF0);
-    assert_eq!(made % 256, 0, "no chain");
+    assert_eq!(number(made), 0, "no chain");
     for telegram in [fitting(1, INITBIDIR, &[]), fitting(0, SETMULT, &MEMBER)] {
         let done = (side.deliver)(&mut record, &telegram, &mut [0; 12]);
-        assert_eq!(done % 256, 0, "no chain");
+        assert_eq!(number(done), 0, "no chain");
     }
     record
 }

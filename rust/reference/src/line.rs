@@ -8,7 +8,7 @@ mod tests;
 
 use crate::case::{Call, Case, Lent};
 use crate::telegram::checksum;
-use crate::wire::Side;
+use crate::wire::{checksums, count, number, Side};
 
 /// What a room holds before a call, and the chain memory before a chain is
 /// made.
@@ -146,21 +146,28 @@ fn report(case: &Case, side: &Side, record: &mut [u8]) -> String {
         Call::Position => return format!("  {result:016X}\n"),
         _ => {}
     }
-    let (number, count) = (result % 256, (result / 256) as usize);
+    let mut text = said(result as u32, &room);
+    if matches!(case.call, Call::Next { .. }) {
+        text += &format!("  at {at:08X}\n");
+    }
+    text
+}
+
+/// What a returned value says: the number, and behind 0 the bytes that were written,
+/// behind 5 the two checksums. A room that changed otherwise is told.
+fn said(value: u32, room: &[u8]) -> String {
+    let (number, count) = (number(value), count(value));
     let mut text = format!("  {number}");
     if number == 0 {
         text += &format!(" {count}");
-        for byte in room.iter().take(count) {
-            text += &format!(" {byte:02X}");
-        }
+    }
+    let written = room.iter().take(count);
+    for byte in written.chain(checksums(value).iter().flatten()) {
+        text += &format!(" {byte:02X}");
     }
     text.push('\n');
-    let written = if number == 0 { count } else { 0 };
-    if room.iter().skip(written).any(|&byte| byte != FILL) {
+    if room.iter().skip(count).any(|&byte| byte != FILL) {
         text += "  room changed\n";
-    }
-    if matches!(case.call, Call::Next { .. }) {
-        text += &format!("  at {at:08X}\n");
     }
     text
 }

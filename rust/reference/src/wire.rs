@@ -1,6 +1,6 @@
 //! The C interface on slices. Each function but the checksum, the length of a
-//! record and the position of a reader gives back the paper's number plus 256
-//! times the count of bytes written to the front of the room.
+//! record and the position of a reader gives back the paper's number in the lowest
+//! byte, and above it what [`packed`] puts there.
 
 #[cfg(test)]
 mod tests;
@@ -237,10 +237,33 @@ fn put(room: &mut [u8], head: &[u8], body: &[u8]) -> Result<usize, Refusal> {
     Ok(count)
 }
 
-/// Number and count in one.
+/// A returned value: above number 0 the count of bytes written to the front of the
+/// room, above 5 the checksum worked out and then the one received, else nothing.
 pub fn packed(result: Result<usize, Refusal>) -> u32 {
     match result {
         Ok(count) => 256 * count as u32,
-        Err(refusal) => refusal.number(),
+        Err(refusal) => {
+            let [computed, received] = refusal.checksums().unwrap_or_default();
+            u32::from_le_bytes([refusal.number(), computed, received, 0])
+        }
     }
+}
+
+/// The number in a returned value.
+pub fn number(value: u32) -> u32 {
+    value % 256
+}
+
+/// How many bytes were written by a call that returned this; none if it refused.
+pub fn count(value: u32) -> usize {
+    match number(value) {
+        0 => (value / 256) as usize,
+        _ => 0,
+    }
+}
+
+/// The checksum worked out and the one received, where the number is 5.
+pub fn checksums(value: u32) -> Option<[u8; 2]> {
+    let [number, computed, received, _] = value.to_le_bytes();
+    (number == 5).then_some([computed, received])
 }

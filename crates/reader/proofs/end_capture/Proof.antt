@@ -18,6 +18,7 @@ use Rattle.reader.specs.Layout.{stateIn}
 use Rattle.reader.specs.Interface.{endAnswering, readerEnd}
 use Rattle.reader.proofs.States.{state-long}
 use Rattle.reader.proofs.Few.{end-few}
+use Rattle.reader.proofs.Holding.{held-sums}
 use Rattle.reader.proofs.Exits.{end-none, end-told, ended}
 use Rattle.reader.proofs.end_capture.Statement.{statement}
 use Rattle.reader.proofs.end_capture.Tie as tie
@@ -44,7 +45,8 @@ few c f =
     let e = c .end-run .ensures in
     let r = c .before .before .before in
     subst (λ (n : ℕ). n ≤ 11) (sym (ap (λ (x : Closed). x .state .count) e))
-    (end-few (stateOf (r .read-state .result .reading)) (long r) (λ i. byte r i .fits) (λ z. f (ap (λ (x : Closed). x .answer) e ∙ z)))
+    (end-few (stateOf (r .read-state .result .reading)) (long r) (λ i. byte r i .fits)
+    (held-sums _ _ (holds (c .before)) (λ i. omega (arith, r .before .before .slice-known .given i))) (λ z. f (ap (λ (x : Closed). x .answer) e ∙ z)))
 
 enough : (c : tie.After-end-run) → 21 ≤ length (now (c .before .before .before .before .before .before .args .reader))
 enough c = state-long _ _ (holds (c .before))

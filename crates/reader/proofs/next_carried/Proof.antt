@@ -2,7 +2,7 @@
 use mathlib.Core.Path.{_≡_, refl, sym, _∙_, ap, subst}
 use mathlib.Core.Bool.{Bool, true, false, not, cond}
 use mathlib.Core.List.{List, []}
-use Prim.Native.Nat.{ℕ, _+_, _≤_}
+use Prim.Native.Nat.{ℕ, _≤_}
 use native.Mathlib.Omega.{arith}
 use borrow.Author.Needs.{needs}
 use borrow.Author.Tests.{not-true, not-false, le-ltb}
@@ -22,7 +22,7 @@ use Rattle.reader.specs.Layout.{positionIn, stateIn, holding}
 use Rattle.reader.specs.Interface.{returned, Called, answering, readerNext}
 use Rattle.reader.proofs.States.{state-long}
 use Rattle.reader.proofs.Few.{next-few, next-fits, next-waits}
-use Rattle.reader.proofs.Back.{held-open}
+use Rattle.reader.proofs.Holding.{held-open, held-sums}
 use Rattle.reader.proofs.Exits.{next-none, next-told, called}
 use Rattle.reader.proofs.next_carried.Statement.{statement}
 use Rattle.reader.proofs.next_carried.Tie as tie
@@ -55,7 +55,9 @@ few c f =
     let e = c .next-at .ensures in
     let r = c .before .before .before .before in
     subst (λ (n : ℕ). n ≤ 11) (sym (ap (λ (x : Given). x .state .count) e))
-    (next-few (stateOf (r .read-state .result .reading)) (long r) (λ i. byte r i .fits) _ _ (each (r .before .before .before)) (λ z. f (ap (λ (x : Given). x .answer) e ∙ z)))
+    (next-few (stateOf (r .read-state .result .reading)) (long r) (λ i. byte r i .fits)
+    (held-sums _ _ (holds (c .before .before)) (λ i. omega (arith, r .before .before .before .before .slice-known .given i)))
+    _ _ (each (r .before .before .before)) (λ z. f (ap (λ (x : Given). x .answer) e ∙ z)))
 
 enough : (c : tie.After-next-at) → 21 ≤ length (now (start c .args .reader))
 enough c = state-long _ _ (holds (c .before .before))

@@ -4,8 +4,8 @@ use mathlib.Core.Bool.{Bool, true, false, not}
 use borrow.Author.Needs.{needs}
 use borrow.Author.Tests.{not-true, not-false}
 use denote.Ref.{now}
-use Rattle.telegram.specs.Numbers.{Outcome, done, refuse}
-use Rattle.capture.specs.State.{State, stateOf}
+use Rattle.telegram.specs.Numbers.{done, refuse}
+use Rattle.capture.specs.State.{stateOf}
 use Rattle.reader.specs.Layout.{stateIn}
 use Rattle.reader.proofs.Exits.{position-none, position-by}
 use Rattle.reader.proofs.position_of.Statement.{statement}

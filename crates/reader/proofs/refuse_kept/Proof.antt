@@ -1,5 +1,5 @@
 -- `reader::refuse_kept` meets its contract. Assumes nothing.
-use mathlib.Core.Path.{_≡_, sym, _∙_, ap}
+use mathlib.Core.Path.{_≡_, sym, _∙_}
 use Prim.Native.Nat.{ℕ}
 use mathlib.Core.Bool.{cond}
 use mathlib.Core.List.{List}
@@ -21,17 +21,17 @@ refuse-kept-spec =
     tie.close
     (tie.spec
     (λ c κs. search needs)
+    (λ c κs. search needs)
     (λ c.
     let q = c .before .refusal-number .ensures in
-    (sym (c .if1 .taken) ∙ q, eleven _ _ _ (sym q ∙ c .if1 .taken)))
+    (c .before .before .refusal-value .ensures, eleven _ _ _ (sym q ∙ c .if1 .taken)))
     (λ c κs.
     let e = c .before in
-    let s = e .before .before .before in
+    let s = e .before .before .before .before in
     (s .pre .0 (λ z. e .if1 .left (e .before .refusal-number .ensures ∙ z)), s .pre .1))
-    (λ c. search needs)
     (λ c. search needs)
     (λ c.
     let k = c .before .before in
     let e = k .before .before in
     let q = e .before .refusal-number .ensures in
-    (q, k .keep .ensures ∙ own _ _ _ (λ z. e .if1 .left (q ∙ z)))))
+    (e .before .before .refusal-value .ensures, k .keep .ensures ∙ own _ _ _ (λ z. e .if1 .left (q ∙ z)))))

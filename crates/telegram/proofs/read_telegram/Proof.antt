@@ -3,7 +3,6 @@
 use mathlib.Core.Path.{_≡_, _∙_, sym, ap}
 use native.Mathlib.Omega.{arith}
 use borrow.Author.Needs.{needs}
-use borrow.Author.Tests.{not-true, not-false}
 use denote.Ref.{now}
 use Rattle.telegram.specs.Numbers.{done}
 use Rattle.telegram.specs.Telegram.{readAs, framing}
@@ -26,7 +25,8 @@ read-telegram-spec =
     ap readAs (c .enum-told .given .1)
     ∙ read-framed _ (sym (c .before .before .read-frame .ensures) ∙ ap readAs (c .enum-told .given .1)))
     (λ c κs. omega (arith, framed _ _ (frame-is c) .count))
+    (λ c κs. omega (arith, framed _ _ (frame-is (c .before)) .count))
     (λ c.
-    read-checksum _ _ (frame-is (c .before .before)) (sym (c .before .checksum-right .ensures) ∙ not-true _ (c .if1 .taken)))
+    read-checksum _ _ (frame-is (c .before .before .before)) (c .before .before .computed-in .ensures) (c .before .received-in .ensures) (c .if1 .taken))
     (λ c.
-    read-done _ _ (frame-is (c .before .before)) (sym (c .before .checksum-right .ensures) ∙ not-false _ (c .if1 .left))))
+    read-done _ _ (frame-is (c .before .before .before)) (c .before .before .computed-in .ensures) (c .before .received-in .ensures) (c .if1 .left)))

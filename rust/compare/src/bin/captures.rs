@@ -6,7 +6,7 @@
 use reference::capture::{read, Stand};
 use reference::dump::{dump, Options};
 use reference::replay::{self, replay, Ending, Note};
-use reference::wire::REFERENCE;
+use reference::wire::{number, REFERENCE};
 use sides::arguments::{comparison, finish};
 use sides::programs::{Call, Printed, Refusals, Trial, Way};
 use sides::random::Random;
@@ -51,7 +51,9 @@ const WAYS: [Way; 7] = [
 struct Tally {
     captures: u64,
     telegrams: usize,
+    /// Captures that stopped, and those that 5 stopped.
     stopped: u64,
+    wrong: u64,
     /// Telegrams that are a command and an answer, and quiet replays that told of
     /// one.
     either: usize,
@@ -66,7 +68,10 @@ impl Tally {
         let reading = read(capture, 0, true);
         self.captures += 1;
         self.telegrams += reading.telegrams.len();
-        self.stopped += u64::from(matches!(reading.stand, Stand::Stopped(_)));
+        if let Stand::Stopped(refusal) = reading.stand {
+            self.stopped += 1;
+            self.wrong += u64::from(refusal.checksums().is_some());
+        }
         let telegrams = reading.telegrams.iter();
         self.either += telegrams.filter(|telegram| is_either(telegram)).count();
     }
@@ -86,7 +91,7 @@ fn is_either(telegram: &[u8]) -> bool {
     let readings = [REFERENCE.dissect, REFERENCE.dissect_answer];
     readings
         .iter()
-        .all(|dissect| dissect(telegram, &mut [0; 12]) % 256 == 0)
+        .all(|dissect| number(dissect(telegram, &mut [0; 12])) == 0)
 }
 
 /// A comparison under way.
@@ -200,9 +205,10 @@ fn run() -> Result<(), String> {
     }
     println!("{}", tally.refusals.line());
     println!(
-        "compared {calls} calls on {} captures, {} of them stopped, {} telegrams, {} bytes of output in {:.1} s; {misused} calls of wrong use; {} telegrams were either, {} quiet replays told of one; seed {seed}: no difference",
+        "compared {calls} calls on {} captures, {} of them stopped, {} by 5 with both checksums, {} telegrams, {} bytes of output in {:.1} s; {misused} calls of wrong use; {} telegrams were either, {} quiet replays told of one; seed {seed}: no difference",
         tally.captures,
         tally.stopped,
+        tally.wrong,
         tally.telegrams,
         tally.bytes,
         start.elapsed().as_secs_f64(),

@@ -8,6 +8,7 @@ use sides::arguments::{comparison, finish};
 use sides::capture_suites::CAPTURE_SUITES;
 use sides::chain_suites::CHAIN_SUITES;
 use sides::check::Checker;
+use sides::checksum_suites::CHECKSUM_SUITES;
 use sides::library::LIBRARY;
 use sides::lists::try_lists;
 use sides::random::Random;
@@ -43,7 +44,7 @@ fn compare_all(path: &str, seed: u64, count: u64) -> Result<(), String> {
         anything(&mut check, &mut random)?;
     }
     let chains = CHAIN_SUITES.into_iter().chain(ACKNOWLEDGED_SUITES);
-    for suite in chains.chain(CAPTURE_SUITES) {
+    for suite in chains.chain(CAPTURE_SUITES).chain(CHECKSUM_SUITES) {
         suite(&mut check, &mut random)?;
     }
     for (name, calls) in check.counts() {
@@ -58,6 +59,8 @@ fn compare_all(path: &str, seed: u64, count: u64) -> Result<(), String> {
         "{} acknowledged commands did what their plain forms do, and told what they left",
         check.acknowledged()
     );
+    check.wrong().demand()?;
+    println!("{}", check.wrong().line());
     println!(
         "compared {} calls, {} of them deliveries, seed {seed}: no difference",
         check.total(),

@@ -1,11 +1,12 @@
 //! The telegrams of a list, their deliveries, and what they gave back.
 
 use crate::chains::{answer_room, delivering, init_for};
-use crate::check::{hex, input};
+use crate::check::{hex, input, value_text};
 use crate::library::LIBRARY;
 use crate::lists::{Start, Tally, FILL};
 use crate::material::*;
 use crate::random::Random;
+use reference::wire::number;
 
 /// A telegram of a list and the room for its answer.
 #[derive(Clone)]
@@ -87,7 +88,7 @@ fn refused(start: &Start, random: &mut Random) -> Vec<u8> {
 /// the refusal.
 fn dissected(bytes: &[u8]) -> Result<u32, u32> {
     let mut room = [0; 12];
-    match (LIBRARY.dissect)(bytes, &mut room) % 256 {
+    match number((LIBRARY.dissect)(bytes, &mut room)) {
         0 => Ok(u32::from(room[2]) << 8 | u32::from(room[3])),
         number => Err(number),
     }
@@ -113,8 +114,8 @@ pub(super) fn same(
     }
     let text = telegram_text(delivery);
     let line = |given: &Given| {
-        let (number, count) = (given.result % 256, given.result / 256);
-        format!("number {number}, count {count}, room {}", hex(&given.room))
+        let (value, room) = (value_text(given.result), hex(&given.room));
+        format!("{value}, room {room}")
     };
     let (one, other) = (line(one), line(other));
     Err(format!(

@@ -53,10 +53,7 @@ pub(crate) fn refused(number: u32, random: &mut Random) -> Vec<u8> {
             }
             seal(&mut bytes);
         }
-        5 => {
-            let last = bytes.len() - 1;
-            bytes[last] ^= random.between(1, 255) as u8;
-        }
+        5 => unseal(&mut bytes, random),
         6 => bytes = unknown_command(random),
         7 => bytes = wrong_cast(random),
         8 => bytes = wrong_size(random),

@@ -44,8 +44,7 @@ fn header(check: &mut Checker, random: &mut Random, fields: (u32, u32, u32)) -> 
         let payload = random.bytes(size);
         let mut bytes = telegram(address, index, command, &payload);
         readers(check, &bytes, room(random))?;
-        let last = bytes.len() - 1;
-        bytes[last] ^= random.between(1, 255) as u8;
+        unseal(&mut bytes, random);
         readers(check, &bytes, room(random))?;
     }
     Ok(())

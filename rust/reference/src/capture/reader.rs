@@ -17,15 +17,6 @@ const OPEN: u8 = 0;
 const ENDED: u8 = 1;
 const STOPPED: u8 = 2;
 
-/// The refusals that stop a reader, by their numbers from 1 on.
-const STOPS: [Refusal; 5] = [
-    Refusal::TooShort,
-    Refusal::Preamble,
-    Refusal::SizeIndex,
-    Refusal::ByteCount,
-    Refusal::Checksum,
-];
-
 /// What a reader remembers between two calls.
 struct State {
     stand: Stand,
@@ -48,11 +39,11 @@ impl State {
 
     /// The parts of a state, if each has a value.
     fn decode(bytes: &[u8; LENGTH]) -> Option<State> {
-        let (phase, number) = (bytes[PHASE], usize::from(bytes[NUMBER]));
-        let (stand, carried) = match phase {
-            OPEN => (Stand::Open, bytes[CARRIED].get(..number)?),
+        let (number, behind) = (bytes[NUMBER], &bytes[CARRIED]);
+        let (stand, carried) = match bytes[PHASE] {
+            OPEN => (Stand::Open, behind.get(..usize::from(number))?),
             ENDED => (Stand::Ended, &[][..]),
-            STOPPED => (Stand::Stopped(*STOPS.get(number.checked_sub(1)?)?), &[][..]),
+            STOPPED => (Stand::Stopped(stopping(number, behind)?), &[][..]),
             _ => return None,
         };
         let position = bytes[POSITION].try_into().ok()?;
@@ -75,10 +66,13 @@ impl State {
         (bytes[PHASE], bytes[NUMBER]) = match self.stand {
             Stand::Open => (OPEN, self.carried.len() as u8),
             Stand::Ended => (ENDED, 0),
-            Stand::Stopped(refusal) => (STOPPED, refusal as u8),
+            Stand::Stopped(refusal) => (STOPPED, refusal.number()),
         };
         bytes[POSITION].copy_from_slice(&self.position.to_be_bytes());
         bytes[CARRIED][..self.carried.len()].copy_from_slice(&self.carried);
+        if let Stand::Stopped(Refusal::Checksum { computed, received }) = self.stand {
+            bytes[CARRIED][..2].copy_from_slice(&[computed, received]);
+        }
         bytes
     }
 
@@ -94,6 +88,21 @@ impl State {
             Stand::Ended => Some(Ok(0)),
             Stand::Stopped(refusal) => Some(Err(refusal)),
         }
+    }
+}
+
+/// The refusal with a number that stops a reader. Of 5 the bytes behind begin with
+/// the checksum worked out and the one received, which differ.
+fn stopping(number: u8, behind: &[u8]) -> Option<Refusal> {
+    match (number, behind) {
+        (1, _) => Some(Refusal::TooShort),
+        (2, _) => Some(Refusal::Preamble),
+        (3, _) => Some(Refusal::SizeIndex),
+        (4, _) => Some(Refusal::ByteCount),
+        (5, &[computed, received, ..]) if computed != received => {
+            Some(Refusal::Checksum { computed, received })
+        }
+        _ => None,
     }
 }
 

@@ -1,9 +1,21 @@
 //! The sentences of request 01, on whole runs and in chunks.
+//!
+//! - [`states`]: which memory is the state of a reader.
+//! - [`checksums`]: request 03, what a reader keeps of a wrong checksum.
+
+mod checksums;
+mod states;
 
 use super::reader::{end, next, position, LENGTH};
 use super::*;
 use crate::telegram::LONGEST;
-use Refusal::{ByteCount, Chain, Checksum, Preamble, Room, SizeIndex, TooShort};
+use Refusal::{ByteCount, Preamble, Room, SizeIndex, TooShort};
+
+/// A wrong checksum.
+const WRONG: Refusal = Refusal::Checksum {
+    computed: 0x22,
+    received: 0x23,
+};
 
 /// Telegrams of every length: 4, 6, 12, 5, 7, 8 and 10 bytes.
 const GOOD: [&[u8]; 7] = [
@@ -24,7 +36,7 @@ const BAD: [(&[u8], Refusal, usize); 5] = [
     (&[0x00], Preamble, 1),
     (&[0xA0, 0x02, 0x80, 0x00], SizeIndex, 3),
     (&[0xAF, 0xFE, 0xFF], SizeIndex, 3),
-    (&[0xA0, 0x00, 0x00, 0x23], Checksum, 4),
+    (&[0xA0, 0x00, 0x00, 0x23], WRONG, 4),
 ];
 
 /// A state.
@@ -40,8 +52,10 @@ fn open(position: u64, carried: &[u8]) -> [u8; LENGTH] {
     state(0, carried.len() as u8, position, carried)
 }
 
+/// A stopped state, which keeps what the refusal carries.
 fn stopped(refusal: Refusal, position: u64) -> [u8; LENGTH] {
-    state(2, refusal as u8, position, &[])
+    let carried = refusal.checksums().unwrap_or_default();
+    state(2, refusal.number(), position, &carried)
 }
 
 /// All telegrams of a chunk, and what the reader says behind them.
@@ -197,7 +211,7 @@ fn answers_are_repeated() {
         (stopped(Preamble, 9), Err(Preamble)),
         (stopped(SizeIndex, 9), Err(SizeIndex)),
         (stopped(ByteCount, 9), Err(ByteCount)),
-        (stopped(Checksum, u64::MAX), Err(Checksum)),
+        (stopped(WRONG, u64::MAX), Err(WRONG)),
     ];
     for (before, answer) in repeats {
         let mut reader = before;
@@ -259,62 +273,4 @@ fn an_index_behind_the_chunk_stays() {
             assert_eq!((reader, at), (open(0, carried), index));
         }
     }
-}
-
-/// Whether all three calls take memory for a state.
-fn is_taken(memory: &[u8]) -> bool {
-    let (mut read, mut ended) = (memory.to_vec(), memory.to_vec());
-    let refused = next(&mut read, &[], &mut 0, &mut []) == Err(Chain);
-    assert_eq!(end(&mut ended) == Err(Chain), refused);
-    if refused {
-        assert_eq!(
-            (&read[..], &ended[..], position(memory)),
-            (memory, memory, 0)
-        );
-    }
-    !refused
-}
-
-#[test]
-fn what_no_reading_leaves_is_refused() {
-    for phase in 0..=255 {
-        for number in 0..=255 {
-            let taken = matches!((phase, number), (0 | 1, 0) | (2, 1..=5));
-            assert_eq!(is_taken(&state(phase, number, 3, &[])), taken);
-        }
-    }
-    for telegram in GOOD {
-        for size in 1..telegram.len() {
-            let good = open(0, &telegram[..size]);
-            assert!(is_taken(&good));
-            for at in 10 + size..LENGTH {
-                let mut bad = good;
-                bad[at] = 1;
-                assert!(!is_taken(&bad));
-            }
-            for phase in [1, 2] {
-                assert!(!is_taken(&state(phase, phase - 1, 0, &telegram[..size])));
-            }
-        }
-        if telegram.len() < LONGEST {
-            assert!(!is_taken(&open(0, telegram)));
-        }
-    }
-    for (bytes, _, deciding) in BAD {
-        for size in 1..=bytes.len() {
-            assert_eq!(is_taken(&open(0, &bytes[..size])), size < deciding);
-        }
-    }
-    assert!(!is_taken(&state(0, 12, 0, &GOOD[2][..11])));
-}
-
-#[test]
-fn a_state_has_21_bytes() {
-    for size in 0..LENGTH {
-        assert!(!is_taken(&vec![0; size]));
-    }
-    let mut longer = [&open(0, &[])[..], &[0x5A; 5]].concat();
-    assert!(is_taken(&longer));
-    assert_eq!(next(&mut longer, &[0xA0], &mut 0, &mut []), Ok(0));
-    assert_eq!(longer, [&open(0, &[0xA0])[..], &[0x5A; 5]].concat());
 }

@@ -27,8 +27,8 @@ impl Chain<'_> {
     /// CE on the lamp nearest the host.
     #[inline]
     pub fn hear<'a>(&mut self, bytes: &'a [u8]) -> Result<Telegram<'a>, Refusal> {
-        Telegram::parse(bytes).inspect_err(|&refusal| {
-            if refusal == Refusal::Checksum {
+        Telegram::parse(bytes).inspect_err(|refusal| {
+            if matches!(refusal, Refusal::Checksum { .. }) {
                 lamp::set_error(&mut self.slots[0]);
             }
         })

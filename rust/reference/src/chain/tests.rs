@@ -11,7 +11,8 @@ mod init;
 mod record;
 
 use crate::telegram::Telegram;
-use crate::wire::{deliver, make, record_len};
+use crate::wire::{count, deliver, make, number, packed, record_len};
+use crate::Refusal;
 
 const FILL: u8 = 0x5A;
 const DEFAULTS: [u8; 4] = [0x81, 0x11, 0x22, 0x33];
@@ -37,18 +38,18 @@ fn made(count: u32) -> Vec<u8> {
     record
 }
 
-/// The answer to a telegram, or the refusal. What must stay is checked.
+/// The answer to a telegram, or the value with the refusal. What must stay is
+/// checked.
 fn give(record: &mut [u8], bytes: &[u8]) -> Result<Vec<u8>, u32> {
     let before = record.to_vec();
     let mut room = [FILL; 14];
-    let result = deliver(record, bytes, &mut room);
-    let (number, count) = (result % 256, (result / 256) as usize);
+    let value = deliver(record, bytes, &mut room);
+    let (number, count) = (number(value), count(value));
     assert!(room[count..].iter().all(|&byte| byte == FILL));
     if number != 0 {
-        assert_eq!(count, 0);
         let kept = number != 5;
         assert_eq!(record == before, kept || before[slot(0) + 2] & 8 != 0);
-        return Err(number);
+        return Err(value);
     }
     Ok(room[..count].to_vec())
 }

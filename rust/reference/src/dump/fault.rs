@@ -3,7 +3,7 @@
 use crate::command::Name;
 use crate::dump::Meaning;
 use crate::replay::words;
-use crate::telegram::{checksum, Header, FRAME};
+use crate::telegram::{Header, FRAME};
 use crate::Refusal;
 
 /// A refused telegram.
@@ -19,29 +19,27 @@ impl Fault<'_> {
         let deciding = match refusal {
             Refusal::Preamble => 1,
             Refusal::SizeIndex => 3,
-            Refusal::Checksum => announced(left),
+            Refusal::Checksum { .. } => announced(left),
             _ => left.len(),
         };
         let bytes = &left[..deciding.min(left.len())];
         Fault { refusal, bytes }
     }
 
-    /// What was expected in the place of what came.
-    pub fn expected(&self) -> String {
+    /// What was expected in the place of what came; 5 says so itself.
+    pub fn expected(&self) -> Option<String> {
         let bytes = self.bytes;
-        match (self.refusal, bytes) {
+        Some(match (self.refusal, bytes) {
             (Refusal::Preamble, [first, ..]) => {
                 format!("a first byte A0 to AF, got {first:02X}")
             }
             (Refusal::SizeIndex, _) => "size index 0 to 4, 6 or 7, got 5".to_string(),
-            (Refusal::Checksum, [body @ .., last]) => {
-                format!("checksum {:02X}, got {last:02X}", checksum(body))
-            }
+            (Refusal::Checksum { .. }, _) => return None,
             (Refusal::ByteCount, _) => {
                 format!("{} bytes, got {}", announced(bytes), bytes.len())
             }
             _ => format!("{FRAME} bytes or more, got {}", bytes.len()),
-        }
+        })
     }
 
     /// What its first three bytes claim.
@@ -63,11 +61,13 @@ impl Fault<'_> {
         format!("claims command {number:02X} ({name}), address {address:03X}{size}")
     }
 
-    /// What it says with the right checksum, where that is its only fault.
-    pub fn mended(&self) -> Option<Meaning> {
+    /// Where the checksum is its only fault: the right one, and what it says with
+    /// that.
+    pub fn mended(&self) -> Option<(u8, Meaning)> {
+        let [computed, _] = self.refusal.checksums()?;
         let (_, body) = self.bytes.split_last()?;
-        let mended = [body, &[checksum(body)]].concat();
-        (self.refusal == Refusal::Checksum).then(|| Meaning::of(&mended))
+        let mended = [body, &[computed]].concat();
+        Some((computed, Meaning::of(&mended)))
     }
 }
 

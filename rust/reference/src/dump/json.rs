@@ -3,7 +3,7 @@
 use crate::answer::Reply;
 use crate::dump::fault::Fault;
 use crate::dump::{Last, Meaning};
-use crate::replay::json::{answered, bytes, command, name, number, refusal};
+use crate::replay::json::{answered, bytes, checksums, command, name, number, refusal};
 use crate::replay::page::Page;
 use crate::replay::words;
 
@@ -42,7 +42,9 @@ fn answer(page: &mut Page, reply: &Reply) {
 pub fn fault(page: &mut Page, position: u64, fault: &Fault) {
     heading(page, position, fault.bytes);
     refusal(page, fault.refusal);
-    name(page, ",\"expected\":\"", &fault.expected());
+    if let Some(expected) = fault.expected() {
+        name(page, ",\"expected\":\"", &expected);
+    }
     page.text("}\n");
 }
 
@@ -62,6 +64,7 @@ pub fn last(page: &mut Page, last: &Last) {
     }
     let refused = last.refusal.map_or(0, |refusal| refusal.number());
     number(page, ",\"number\":", refused);
+    checksums(page, last.refusal);
     page.text("}\n");
 }
 

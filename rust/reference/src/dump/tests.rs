@@ -24,6 +24,8 @@ fn print(json: bool, quiet: bool, capture: &str) -> (String, u8) {
 /// The capture of the page, without the refused telegram.
 const GOOD: &str = "A0000022 A00402A9 A025026B40D1 A007CF00FF00001111000049";
 const REFUSED: &str = "A0174F75B02EE00000B5";
+/// The same without its last bytes, which is refused at the end.
+const CUT: &str = "A0174F75B02EE0";
 
 #[test]
 fn text_is_that_of_the_page() {
@@ -32,10 +34,9 @@ fn text_is_that_of_the_page() {
          8  A0 25 02 6B 40 D1                    009 answers initbidir: temperature 6B, status 40 (SLEEP, bidir, no flags)
         14  A0 07 CF 00 FF 00 00 11 11 00 00 49  neither: as a command refused 8, as an answer refused 6
 ";
-    let refused = "        26  A0 17 4F 75 B0 2E E0 00 00 B5        refused 5: checksum differs
-            expected checksum 9F, got B5
+    let refused = "        26  A0 17 4F 75 B0 2E E0 00 00 B5        refused 5: checksum differs (worked out 9F, received B5)
             claims command 4F (setpwm), address 005, 6 payload bytes
-            with that checksum: setpwm to lamp 005: red night 30128, green night 12000, blue night 0
+            with checksum 9F: setpwm to lamp 005: red night 30128, green night 12000, blue night 0
 stopped at position 26: 4 telegrams before it (2 commands, 1 answer, 1 neither)
 ";
     let ended = "ended at position 26: 4 telegrams (2 commands, 1 answer, 1 neither)\n";
@@ -51,12 +52,16 @@ stopped at position 26: 4 telegrams before it (2 commands, 1 answer, 1 neither)
 fn quiet_is_the_last_line() {
     let wanted = "ended at position 26: 4 telegrams\n";
     assert_eq!(print(false, true, GOOD), (wanted.to_string(), 0));
-    let wanted = "stopped at position 26: 4 telegrams before it, refused 5: checksum differs\n";
+    let wanted = "stopped at position 26: 4 telegrams before it, refused 5: checksum differs (worked out 9F, received B5)\n";
     let capture = format!("{GOOD}{REFUSED}");
     assert_eq!(print(false, true, &capture), (wanted.to_string(), 1));
     let wanted = "{\"ended\":26,\"telegrams\":4,\"number\":0}\n";
     assert_eq!(print(true, true, GOOD), (wanted.to_string(), 0));
-    let wanted = "{\"stopped\":26,\"telegrams\":4,\"number\":5}\n";
+    let wanted =
+        "{\"stopped\":26,\"telegrams\":4,\"number\":5,\"computed\":159,\"received\":181}\n";
+    assert_eq!(print(true, true, &capture), (wanted.to_string(), 1));
+    let wanted = "{\"stopped\":26,\"telegrams\":4,\"number\":4}\n";
+    let capture = format!("{GOOD}{CUT}");
     assert_eq!(print(true, true, &capture), (wanted.to_string(), 1));
 }
 
@@ -67,17 +72,20 @@ fn json_is_that_of_the_page() {
 {"position":8,"bytes":"A025026B40D1","number":0,"answers":"initbidir","address":9,"answer":"6B40"}
 {"position":14,"bytes":"A007CF00FF00001111000049","number":0,"as_command":8,"as_answer":6}
 "#;
-    let refused = r#"{"position":26,"bytes":"A0174F75B02EE00000B5","number":5,"refusal":"checksum differs","expected":"checksum 9F, got B5"}
-{"stopped":26,"telegrams":4,"commands":2,"answers":1,"either":0,"neither":1,"number":5}
+    let refused = r#"{"position":26,"bytes":"A0174F75B02EE00000B5","number":5,"refusal":"checksum differs","computed":159,"received":181}
+{"stopped":26,"telegrams":4,"commands":2,"answers":1,"either":0,"neither":1,"number":5,"computed":159,"received":181}
+"#;
+    let cut = r#"{"position":26,"bytes":"A0174F75B02EE0","number":4,"refusal":"byte count is not 4 + payload size","expected":"10 bytes, got 7"}
+{"stopped":26,"telegrams":4,"commands":2,"answers":1,"either":0,"neither":1,"number":4}
 "#;
     let ended = r#"{"ended":26,"telegrams":4,"commands":2,"answers":1,"either":0,"neither":1,"number":0}
 "#;
     assert_eq!(print(true, false, GOOD), (format!("{listed}{ended}"), 0));
-    let capture = format!("{GOOD}{REFUSED}");
-    assert_eq!(
-        print(true, false, &capture),
-        (format!("{listed}{refused}"), 1)
-    );
+    for (telegram, told) in [(REFUSED, refused), (CUT, cut)] {
+        let capture = format!("{GOOD}{telegram}");
+        let wanted = (format!("{listed}{told}"), 1);
+        assert_eq!(print(true, false, &capture), wanted);
+    }
 }
 
 /// What is told of a refused telegram: bytes and refusal, and each line below.
@@ -128,21 +136,19 @@ fn refusals_are_told_as_in_the_table() {
 #[test]
 fn a_wrong_checksum_is_mended() {
     let wanted = [
-        "AF FC FF 00 00                       refused 5: checksum differs",
-        "expected checksum AF, got 00",
+        "AF FC FF 00 00                       refused 5: checksum differs (worked out AF, received 00)",
         "claims command 7F (unknown), address 3FF, 1 payload byte",
-        "with that checksum: neither: as a command refused 6, as an answer refused 6",
+        "with checksum AF: neither: as a command refused 6, as an answer refused 6",
     ];
     assert_eq!(told("AFFCFF0000"), wanted);
     let wanted = [
-        "A0 04 C0 48 00                       refused 5: checksum differs",
-        "expected checksum 37, got 00",
+        "A0 04 C0 48 00                       refused 5: checksum differs (worked out 37, received 00)",
         "claims command 40 (readstatus), address 001, 1 payload byte",
-        "with that checksum: 001 answers readstatus: status 48 (SLEEP, bidir, CE)",
+        "with checksum 37: 001 answers readstatus: status 48 (SLEEP, bidir, CE)",
     ];
     assert_eq!(told("A004C04800A0"), wanted);
     assert_eq!(
-        told("A0000000")[2],
+        told("A0000000")[1],
         "claims command 00 (reset), address 000, 0 payload bytes"
     );
 }
@@ -181,10 +187,9 @@ fn json_says_either_both_ways() {
 #[test]
 fn a_mended_telegram_may_be_either() {
     let wanted = [
-        "A0 0D 2D 00 10 00                    refused 5: checksum differs",
-        "expected checksum B4, got 00",
+        "A0 0D 2D 00 10 00                    refused 5: checksum differs (worked out B4, received 00)",
         "claims command 2D (setmult_sr), address 003, 2 payload bytes",
-        &format!("with that checksum: {SAID}"),
+        &format!("with checksum B4: {SAID}"),
     ];
     assert_eq!(told("A00D2D001000"), wanted);
 }

@@ -3,7 +3,7 @@
 use crate::dump::fault::Fault;
 use crate::dump::{Last, Meaning};
 use crate::replay::page::Page;
-use crate::replay::{text, words};
+use crate::replay::text;
 
 /// The columns of the bytes of a telegram.
 const COLUMNS: usize = 37;
@@ -20,11 +20,13 @@ pub fn telegram(page: &mut Page, position: u64, bytes: &[u8], meaning: &Meaning)
 /// A refused telegram.
 pub fn fault(page: &mut Page, position: u64, fault: &Fault) {
     heading(page, position, fault.bytes);
-    page.show(format_args!("{}\n", words::refused(fault.refusal)));
-    page.show(format_args!("{INDENT}expected {}\n", fault.expected()));
+    page.show(format_args!("{}\n", fault.refusal));
+    if let Some(expected) = fault.expected() {
+        page.show(format_args!("{INDENT}expected {expected}\n"));
+    }
     page.show(format_args!("{INDENT}{}\n", fault.claims()));
-    if let Some(meaning) = fault.mended() {
-        page.show(format_args!("{INDENT}with that checksum: "));
+    if let Some((checksum, meaning)) = fault.mended() {
+        page.show(format_args!("{INDENT}with checksum {checksum:02X}: "));
         say(page, &meaning);
         page.text("\n");
     }
@@ -42,7 +44,7 @@ pub fn last(page: &mut Page, last: &Last) {
         "{stands} at position {position}: {telegrams}{before}"
     ));
     match last.refusal {
-        Some(refusal) if last.quiet => page.show(format_args!(", {}", words::refused(refusal))),
+        Some(refusal) if last.quiet => page.show(format_args!(", {refusal}")),
         None if last.quiet => {}
         _ => {
             let commands = counted(tally.commands, "command");

@@ -19,6 +19,10 @@ fn report(line: &str) -> String {
 fn lines_give_their_results() {
     assert_eq!(report("r 20 A0 00 00 22"), "  0 4 00 00 00 00\n");
     assert_eq!(report("r 20"), "  1\n");
+    for letter in ["r", "d", "a"] {
+        let line = format!("{letter} 20 A0 00 00 23");
+        assert_eq!(report(&line), "  5 22 23\n");
+    }
     assert_eq!(report("s A0 00 00"), "  22\n");
     assert_eq!(report("s"), "  00\n");
     let dissected = "  0 6 02 00 05 02 6F 50\n";
@@ -91,7 +95,7 @@ fn writes_end_with_the_lent_bytes() {
 fn a_changed_room_is_told() {
     fn careless(_: &[u8], room: &mut [u8]) -> u32 {
         room[0] = 0;
-        5
+        0x22_05
     }
     let side = Side {
         read: careless,
@@ -99,7 +103,7 @@ fn a_changed_room_is_told() {
     };
     let line = Line::parse("r 01 A0").unwrap().unwrap();
     let printed = line.report(&side, &mut Memory::default());
-    assert_eq!(printed, "  5\n  room changed\n");
+    assert_eq!(printed, "  5 22 00\n  room changed\n");
 }
 
 #[test]
@@ -179,6 +183,25 @@ fn reader_lines_share_the_memory() {
     assert_eq!(printed[6], printed[5]);
     assert_eq!(printed[7], record(&[3]));
     assert_eq!(printed[8], "  0000000000000000\n");
+}
+
+#[test]
+fn wrong_checksums_are_printed_by_deliveries_and_readers() {
+    let lines = [
+        "m 00000016 00000001 81 11 22 33",
+        "t 0C A0 00 00 23",
+        "o 000000000000000000000000000000000000000000",
+        "g 0C 00000000 A0 00 00 23",
+        "e",
+    ];
+    let printed = reports(&lines);
+    assert!(printed[1].starts_with("  5 22 23\n  record "));
+    let mut state = [0; 21];
+    (state[0], state[1]) = (2, 5);
+    (state[10], state[11]) = (0x22, 0x23);
+    let record = format!("  record {:02X}\n", checksum(&state));
+    assert_eq!(printed[3], format!("  5 22 23\n  at 00000000\n{record}"));
+    assert_eq!(printed[4], format!("  5 22 23\n{record}"));
 }
 
 #[test]

@@ -1,6 +1,5 @@
 //! How a program ends, and what it then says on standard error.
 
-use crate::replay::words;
 use crate::Refusal;
 use std::fmt::{self, Display, Formatter};
 use std::io;
@@ -44,8 +43,8 @@ pub enum Failure {
 
 impl Display for Stop {
     fn fmt(&self, out: &mut Formatter) -> fmt::Result {
-        let (position, refused) = (self.position, words::refused(self.refusal));
-        write!(out, "capture stopped at position {position}: {refused}")
+        let Stop { position, refusal } = self;
+        write!(out, "capture stopped at position {position}: {refusal}")
     }
 }
 
@@ -64,7 +63,7 @@ impl Display for Failure {
     fn fmt(&self, out: &mut Formatter) -> fmt::Result {
         match self {
             Failure::Use(message) => out.write_str(message),
-            Failure::Chain(refusal) => out.write_str(&words::refused(*refusal)),
+            Failure::Chain(refusal) => refusal.fmt(out),
             Failure::Line(number) => write!(
                 out,
                 "line {number}: expected hex bytes, 'sensor PLACE TEMP FAULTS' or a comment"

@@ -118,10 +118,19 @@ fn refused(page: &mut Page, reason: Refusal) {
     page.text("}\n");
 }
 
-/// A refusal with its number and its words.
+/// A refusal with its number, its words and what it carries.
 pub fn refusal(page: &mut Page, refusal: Refusal) {
     number(page, ",\"number\":", refusal.number());
     name(page, ",\"refusal\":\"", words::refusal(refusal));
+    checksums(page, Some(refusal));
+}
+
+/// Both checksums, where a refusal carries them.
+pub fn checksums(page: &mut Page, refusal: Option<Refusal>) {
+    if let Some([computed, received]) = refusal.and_then(Refusal::checksums) {
+        number(page, ",\"computed\":", computed);
+        number(page, ",\"received\":", received);
+    }
 }
 
 /// A number behind its key.

@@ -1,5 +1,6 @@
 //! Output, gathered before it is written.
 
+use std::borrow::Cow;
 use std::fmt::Arguments;
 use std::io::{self, Write};
 
@@ -50,6 +51,18 @@ impl Page {
         output.write_all(&self.0)?;
         self.0.clear();
         Ok(())
+    }
+
+    /// What one thing writes on a page of its own.
+    pub fn of(write: impl FnOnce(&mut Page)) -> Page {
+        let mut page = Page(Vec::new());
+        write(&mut page);
+        page
+    }
+
+    /// What is written on the page.
+    pub fn written(&self) -> Cow<'_, str> {
+        String::from_utf8_lossy(&self.0)
     }
 
     /// Bytes as they are.

@@ -7,6 +7,7 @@ use crate::replay::script::{Report, Sent};
 use crate::replay::{words, Exchange, Fields, Mark, Stop};
 use crate::telegram::LONGEST;
 use crate::Refusal;
+use std::fmt::{self, Display, Formatter};
 
 /// Where the words of a line begin.
 const COLUMN: usize = 40;
@@ -127,15 +128,32 @@ fn bytes(page: &mut Page, label: &[u8; 3], sent: &Sent) {
 }
 
 /// The number of the line or the position, and the refusal in words.
-fn refused(page: &mut Page, mark: Mark, refusal: Refusal) {
+fn refused(page: &mut Page, mark: Mark, reason: Refusal) {
     page.text(mark.name);
     page.text(" ");
     page.decimal(mark.number);
-    page.text(": refused ");
+    page.text(": ");
+    refusal(page, reason);
+    page.text("\n");
+}
+
+/// A refusal in words; 5 says both checksums.
+pub fn refusal(page: &mut Page, refusal: Refusal) {
+    page.text("refused ");
     page.decimal(refusal.number());
     page.text(": ");
     page.text(words::refusal(refusal));
-    page.text("\n");
+    if let Some([computed, received]) = refusal.checksums() {
+        value(page, " (worked out ", &[computed]);
+        value(page, ", received ", &[received]);
+        page.text(")");
+    }
+}
+
+impl Display for Refusal {
+    fn fmt(&self, out: &mut Formatter) -> fmt::Result {
+        out.write_str(&Page::of(|page| refusal(page, *self)).written())
+    }
 }
 
 /// A command in words.

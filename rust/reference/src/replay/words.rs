@@ -69,19 +69,14 @@ pub fn command(name: Name) -> &'static str {
     }
 }
 
-/// A refusal with its number and its words.
-pub fn refused(reason: Refusal) -> String {
-    format!("refused {}: {}", reason.number(), refusal(reason))
-}
-
-/// The words of a refusal.
+/// The words of a refusal, without its number and what it carries.
 pub fn refusal(refusal: Refusal) -> &'static str {
     match refusal {
         Refusal::TooShort => "fewer than 4 bytes",
         Refusal::Preamble => "preamble is not 1010",
         Refusal::SizeIndex => "size index 5",
         Refusal::ByteCount => "byte count is not 4 + payload size",
-        Refusal::Checksum => "checksum differs",
+        Refusal::Checksum { .. } => "checksum differs",
         Refusal::Unknown => "unknown command, or an answer to a command that has none",
         Refusal::Cast => "cast not allowed, or init at 000 while a lamp has no address",
         Refusal::PayloadSize => "payload size wrong for the command",

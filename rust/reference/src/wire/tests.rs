@@ -4,19 +4,17 @@ use super::*;
 
 const FILL: u8 = 0x5A;
 
-/// The bytes that a call wrote, or its refusal; the rest of the room must
-/// have stayed.
+/// The bytes that a call wrote, or the value with its refusal; the rest of the
+/// room must have stayed.
 fn outcome(size: usize, call: impl Fn(&mut [u8]) -> u32) -> Result<Vec<u8>, u32> {
     let mut room = vec![FILL; size];
-    let result = call(&mut room);
-    let (number, count) = (result % 256, (result / 256) as usize);
+    let value = call(&mut room);
+    let count = count(value);
     assert!(room[count..].iter().all(|&byte| byte == FILL));
-    assert!(number == 0 || count == 0);
     room.truncate(count);
-    if number == 0 {
-        Ok(room)
-    } else {
-        Err(number)
+    match number(value) {
+        0 => Ok(room),
+        _ => Err(value),
     }
 }
 
@@ -30,6 +28,63 @@ fn results_have_the_layout_of_the_interface() {
     let bytes = [0xA0, 0x0D, 0x0D, 0x00, 0x10, 0x5B];
     let wanted = Ok(vec![0x0D, 1, 0, 3, 2, 0x00, 0x10]);
     assert_eq!(outcome(9, |room| dissect(&bytes, room)), wanted);
+}
+
+#[test]
+fn only_0_and_5_have_something_above_their_number() {
+    let others = [
+        Refusal::TooShort,
+        Refusal::Preamble,
+        Refusal::SizeIndex,
+        Refusal::ByteCount,
+        Refusal::Unknown,
+        Refusal::Cast,
+        Refusal::PayloadSize,
+        Refusal::Room,
+        Refusal::Range,
+        Refusal::Chain,
+        Refusal::PastEnd,
+        Refusal::Place,
+    ];
+    for (refusal, wanted) in others.into_iter().zip((1..=4).chain(6..)) {
+        let value = packed(Err(refusal));
+        assert_eq!((value, number(value), count(value)), (wanted, wanted, 0));
+        assert_eq!((refusal.checksums(), checksums(value)), (None, None));
+    }
+    let value = packed(Ok(12));
+    assert_eq!((value, number(value), count(value)), (0x0C00, 0, 12));
+    assert_eq!(checksums(value), None);
+    let (computed, received) = (0x22, 0x23);
+    let value = packed(Err(Refusal::Checksum { computed, received }));
+    assert_eq!((value, number(value), count(value)), (WRONG, 5, 0));
+    assert_eq!(checksums(value), Some([0x22, 0x23]));
+}
+
+/// What is returned for A0 00 00 23: the number, the checksum worked out and the one
+/// received, from the lowest byte on.
+const WRONG: u32 = 0x23_22_05;
+
+#[test]
+fn every_function_that_reads_tells_both_checksums() {
+    let bytes = [0xA0, 0x00, 0x00, 0x23];
+    for size in [0, 12] {
+        assert_eq!(outcome(size, |room| read(&bytes, room)), Err(WRONG));
+        assert_eq!(outcome(size, |room| dissect(&bytes, room)), Err(WRONG));
+        let answer = outcome(size, |room| dissect_answer(&bytes, room));
+        assert_eq!(answer, Err(WRONG));
+    }
+    let mut record = vec![0; record_len(2) as usize];
+    assert_eq!(make(&mut record, 2, 0x13, 3, 0xE6, 0xF0), 0);
+    assert_eq!(deliver(&mut record, &bytes, &mut [FILL; 12]), WRONG);
+    let mut state = [0; reader::LENGTH];
+    for chunk in [&bytes[..], &[], &[0xA0, 0x00, 0x00, 0x22]] {
+        let (mut at, mut room) = (0, [FILL; 12]);
+        let value = reader_next(&mut state, chunk, &mut at, &mut room);
+        assert_eq!((value, at, room), (WRONG, 0, [FILL; 12]));
+        assert_eq!(reader_end(&mut state), WRONG);
+    }
+    assert_eq!(state[..2], [2, 5]);
+    assert_eq!(state[2..], [&[0; 8][..], &[0x22, 0x23], &[0; 9]].concat());
 }
 
 #[test]
@@ -152,7 +207,7 @@ fn dissected_commands_have_the_bytes_of_their_fields() {
         let fields = outcome(13, |room| dissect(&bytes, room));
         assert_eq!(
             fields.map(|fields| fields[5..].to_vec()),
-            payload.map_err(Refusal::number)
+            payload.map_err(|refusal| packed(Err(refusal)))
         );
         let back = order.map(|order| outcome(12, |room| packed(order.write(room))));
         assert!(back.is_err() || back == Ok(Ok(bytes)));
@@ -167,7 +222,7 @@ fn dissected_answers_have_the_bytes_of_their_fields() {
         let fields = outcome(12, |room| dissect_answer(&bytes, room));
         assert_eq!(
             fields.map(|fields| fields[4..].to_vec()),
-            payload.map_err(Refusal::number)
+            payload.map_err(|refusal| packed(Err(refusal)))
         );
         let back = reply.map(|reply| outcome(12, |room| packed(reply.write(room))));
         assert!(back.is_err() || back == Ok(Ok(bytes)));

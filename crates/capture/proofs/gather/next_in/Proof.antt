@@ -1,16 +1,19 @@
 -- `capture::gather::next_in` meets its contract: what the bytes show decides. Assumes nothing.
 use mathlib.Core.Path.{_≡_, sym, _∙_, ap}
 use mathlib.Core.List.{List, _++_}
+use mathlib.Core.Logic.{⊎-elim}
 use Prim.Native.Nat.{ℕ, _+_, _-_, _≤_, _<_}
 use native.Mathlib.Omega.{arith}
 use borrow.Author.Needs.{needs}
 use lib.ListN.{length, take, drop, take-append-drop}
 use lib.Seq.{length-take-le, take-take}
-use Rattle.telegram.specs.Numbers.{done}
+use Rattle.telegram.specs.Numbers.{Reason, bare, refusedFor, done, reasonOf, numberOf}
+use Rattle.telegram.specs.declared.Refusal.{Refusal}
+use Rattle.telegram.proofs.Carrying.{bare-is}
 use Rattle.telegram.specs.Telegram.{reading}
-use Rattle.frame.specs.Frame.{Cutting, incomplete, whole, cutAs, cutting}
-use Rattle.frame.proofs.Cuts.{complete, whole-past}
-use Rattle.capture.specs.State.{going, State, stateOf}
+use Rattle.frame.specs.Frame.{Cutting, incomplete, broken, whole, cutAs, cutting}
+use Rattle.frame.proofs.Cuts.{complete, whole-past, fault}
+use Rattle.capture.specs.State.{going, stoppedFor, State, stateOf, resting}
 use Rattle.capture.specs.Calls.{more, without, nextJudged, nextCut}
 use Rattle.capture.proofs.gather.next_in.Statement.{statement}
 use Rattle.capture.proofs.gather.next_in.Tie as tie
@@ -59,6 +62,10 @@ telegram c =
     let i : length (take n s) ≡ n = length-take-le n s (omega (arith, counted p, p .pre .0)) in
     (omega arith, omega (arith, enough c, p .pre .1), omega (arith, p .pre .4, enough c))
 
+-- a refusal here is its number alone
+broken-bare : (s : List ℕ) (e : Refusal) → cutting s ≡ broken (numberOf e) → reasonOf e ≡ bare (numberOf e)
+broken-bare s e q = bare-is e (λ z. ⊎-elim (λ a. omega arith) (λ a. omega arith) (fault s (numberOf e) q))
+
 -- the answer by what the bytes show
 by : (s : List ℕ) (m : ℕ) (st : State) (at : ℕ) (k : Cutting) → cutting s ≡ k → nextCut k s m st at ≡ nextCut (cutting s) s m st at
 by s m st at k e = ap (λ (x : Cutting). nextCut x s m st at) (sym e)
@@ -80,8 +87,11 @@ returns-2 c =
     let f = t .before .before in
     let p = f .before .before in
     let a = p .args in
+    let e : Refusal = t .shown .given .0 .0 in
+    let q : cutting (part p) ≡ broken (numberOf e) = sym (f .cut-first .ensures) ∙ ap cutAs (t .shown .given .1) in
     c .stop .ensures
-    ∙ by (part p) (a .n - a .carried .count) (stateOf (a .carried)) (a .at) _ (sym (f .cut-first .ensures) ∙ ap cutAs (t .shown .given .1))
+    ∙ ap (λ (d : Reason). without (refusedFor d) (a .at) (resting (stoppedFor d) (a .carried .position))) (broken-bare (part p) e q)
+    ∙ by (part p) (a .n - a .carried .count) (stateOf (a .carried)) (a .at) (broken (numberOf e)) q
 
 returns-3 : tie.Need-returns-3
 returns-3 c =

@@ -1,12 +1,14 @@
 -- `capture::whole_chunk::feed` meets its contract: a chunk of one byte. Assumes nothing.
-use mathlib.Core.Path.{_≡_, _∙_, ap}
+use mathlib.Core.Path.{_≡_, _∙_, ap, sym, subst}
 use Prim.Native.Nat.{ℕ}
 use native.Mathlib.Omega.{arith}
 use borrow.Author.Needs.{needs}
 use lib.ListN.{length, getD}
 use mir.Syntax.{w8}
 use mir.Val.{Fits}
-use Rattle.capture.specs.State.{stateOf, isLeft}
+use Rattle.telegram.specs.Telegram.{Bytes}
+use Rattle.frame.proofs.Fronts.{bytes-none}
+use Rattle.capture.specs.State.{Standing, checksumsIn, stateOf, isLeft}
 use Rattle.capture.specs.Run.{fed}
 use Rattle.capture.specs.Calls.{Given}
 use Rattle.capture.specs.Uncut.{Taken}
@@ -28,7 +30,8 @@ returns c =
     let s = stateOf (a .s) in
     let e : stateOf (c .before .next-open .result .reading) ≡ fed s (a .b) =
     ap (λ (g : Given). g .state) (c .before .next-open .ensures) ∙ fed-next s (a .b) (p .pre .1) 1 0 in
-    let t : Taken s = record { long = long p; each = λ i. byte p i .fits; leaves = p .pre .0 } in
+    let none = subst (λ (k : Standing). Bytes (checksumsIn k)) (sym (p .pre .1)) bytes-none in
+    let t : Taken s = record { long = long p; each = λ i. byte p i .fits; sums = none; leaves = p .pre .0 } in
     (e, ap isLeft e ∙ taken-fed s (a .b) t (omega arith) .leaves)
 
 pub feed-spec : {M : Type 1} → statement M

@@ -11,7 +11,7 @@ use lib.Seq.{length-take-le}
 use Rattle.telegram.specs.Telegram.{Bytes}
 use Rattle.telegram.proofs.Front.{put-over}
 use Rattle.capture.specs.State.{stateOf}
-use Rattle.reader.proofs.Back.{open-kept}
+use Rattle.reader.proofs.Holding.{open-kept}
 use Rattle.reader.proofs.kept.keep_carried.Statement.{statement}
 use Rattle.reader.proofs.kept.keep_carried.Tie as tie
 

@@ -13,7 +13,7 @@ use Rattle.telegram.proofs.Reading.{accepted-size}
 use Rattle.telegram.proofs.Outcomes.{fit-small, fit-done, told-refused, told-done}
 use Rattle.frame.proofs.Fronts.{bytes-take, bytes-drop}
 use Rattle.capture.specs.Run.{wrapped}
-use Rattle.reader.specs.Layout.{positionBytes, positionIn}
+use Rattle.reader.specs.Layout.{positionBytes}
 use Rattle.reader.specs.Interface.{returned, readerNext}
 use Rattle.reader.proofs.AtRest.{passed, rest-long, rest-called}
 use Rattle.reader.proofs.Exits.{called}

@@ -1,10 +1,10 @@
 -- `reader::passing::put_position` meets its contract. Assumes nothing.
 use mathlib.Core.Path.{_≡_, _∙_, ap}
-use mathlib.Core.List.{List, _++_}
+use mathlib.Core.List.{List}
 use native.Mathlib.Omega.{arith}
 use borrow.Author.Needs.{needs}
 use denote.Ref.{now}
-use lib.ListN.{length, take, drop}
+use lib.ListN.{length}
 use Rattle.telegram.proofs.Front.{overwritten, put-over}
 use Rattle.reader.proofs.passing.put_position.Statement.{statement}
 use Rattle.reader.proofs.passing.put_position.Tie as tie

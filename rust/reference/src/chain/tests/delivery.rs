@@ -177,15 +177,21 @@ fn groups_take_their_members() {
     }
 }
 
+/// The value of 5, with the checksum worked out and the one received.
+fn wrong(computed: u8, received: u8) -> u32 {
+    packed(Err(Refusal::Checksum { computed, received }))
+}
+
 #[test]
-fn wrong_checksums_are_noted_by_place_0_alone() {
+fn wrong_checksums_are_told_and_noted_by_place_0_alone() {
     for mut record in [made(3), numbered(3)] {
         let mut wanted = record.clone();
         wanted[slot(0) + 2] |= 8;
-        assert_eq!(give(&mut record, &[0xA0, 0x00, 0x00, 0x23]), Err(5));
-        assert_eq!(record, wanted);
-        assert_eq!(give(&mut record, &[0xA0, 0x00, 0x00, 0x23]), Err(5));
-        assert_eq!(record, wanted);
+        for received in (0..=255).filter(|&received| received != 0x22) {
+            let given = give(&mut record, &[0xA0, 0x00, 0x00, received]);
+            assert_eq!(given, Err(wrong(0x22, received)));
+            assert_eq!(record, wanted);
+        }
     }
     let mut record = numbered(2);
     give(&mut record, &[0xA0, 0x00, 0x00, 0x23]).unwrap_err();
@@ -201,14 +207,14 @@ fn deliveries_refuse_in_order() {
         (&[0xB0, 0x02, 0x80, 0x00], 2),
         (&[0xA0, 0x02, 0x80, 0x00], 3),
         (&[0xA0, 0x00, 0x00, 0x22, 0x00], 4),
-        (&[0xA0, 0x00, 0x08, 0x00], 5),
+        (&[0xA0, 0x00, 0x08, 0x00], wrong(0x75, 0x00)),
         (&telegram(0x3FF, 0x08, &[1]), 6),
         (&telegram(0x3FF, 0x00, &[1]), 7),
         (&telegram(0x3EF, 0x02, &[1]), 8),
     ];
-    for (bytes, number) in cases {
+    for (bytes, refusal) in cases {
         let mut record = made(2);
-        assert_eq!(deliver(&mut record, bytes, &mut [FILL; 12]), number);
+        assert_eq!(deliver(&mut record, bytes, &mut [FILL; 12]), refusal);
         assert_eq!(deliver(&mut record, bytes, &mut [FILL; 11]), 9);
         record[1] = 0;
         assert_eq!(deliver(&mut record, bytes, &mut [FILL; 11]), 9);

@@ -11,7 +11,8 @@ const CAPTURE: [&[u8]; 3] = [
     &[0xA0, 0x00, 0x05, 0xB1],
 ];
 const DAMAGED: &[u8] = &[0xA0, 0x00, 0x00, 0x23];
-const STOPPED: &str = "capture stopped at position 20: refused 5: checksum differs";
+const STOPPED: &str =
+    "capture stopped at position 20: refused 5: checksum differs (worked out 22, received 23)";
 
 /// The capture, with the damaged telegram and a good one behind it or not.
 fn capture(stops: bool) -> Vec<u8> {
@@ -59,11 +60,12 @@ fn json_has_positions() {
 {"position":4,"tx":"A007CF00FF00001111000049","number":8,"refusal":"payload size wrong for the command"}
 {"position":16,"tx":"A00005B1","number":0,"command":"goactive","cast":"everyone","value":0,"payload":"","rx":null}
 "#;
-    let stopped = "{\"stopped\":20,\"number\":5,\"refusal\":\"checksum differs\"}\n";
+    let stopped =
+        r#"{"stopped":20,"number":5,"refusal":"checksum differs","computed":34,"received":35}"#;
     let lamps = lamps(json(9));
     let (output, outcome) = print(raw(json(9)), &capture(true));
     assert_eq!((status(&outcome), outcome.unwrap().refused), (1, 2));
-    assert_eq!(output, format!("{wanted}{stopped}{lamps}"));
+    assert_eq!(output, format!("{wanted}{stopped}\n{lamps}"));
 }
 
 /// The same without a line of its telegrams.
@@ -138,9 +140,12 @@ fn a_quiet_replay_tells_once_that_a_telegram_may_be_an_answer() {
         assert_eq!(status(&outcome), 0);
         assert_eq!(errors("replay", &outcome), MAY_BE);
         let (_, outcome) = print(quiet(raw(options)), &[&twice, DAMAGED].concat());
-        let stopped = "osp: replay: capture stopped at position 16: refused 5: checksum differs\n";
+        let stopped = STOPPED.replace("20", "16");
         assert_eq!(status(&outcome), 1);
-        assert_eq!(errors("replay", &outcome), format!("{MAY_BE}{stopped}"));
+        assert_eq!(
+            errors("replay", &outcome),
+            format!("{MAY_BE}osp: replay: {stopped}\n")
+        );
         let (_, outcome) = print(quiet(raw(options)), EITHER[0]);
         assert_eq!(errors("replay", &outcome), "");
     }

@@ -83,6 +83,28 @@ fn acknowledged_commands_have_sr_behind_their_names() {
 }
 
 #[test]
+fn only_5_says_more_than_its_words() {
+    let (computed, received) = (0, 0xFF);
+    let said = [
+        (
+            Refusal::ByteCount,
+            "refused 4: byte count is not 4 + payload size",
+        ),
+        (
+            Refusal::Checksum { computed, received },
+            "refused 5: checksum differs (worked out 00, received FF)",
+        ),
+        (Refusal::PastEnd, "refused 12: init runs past 3EF"),
+    ];
+    for (refusal, wanted) in said {
+        assert_eq!(refusal.to_string(), wanted);
+    }
+    let wanted = r#"{"line":1,"tx":"A004CD36FF","number":5,"refusal":"checksum differs","computed":0,"received":255}"#;
+    let (output, _) = lines(json(1), "A004CD36FF");
+    assert_eq!(output.trim_end(), wanted);
+}
+
+#[test]
 fn every_command_has_its_name() {
     for name in Name::ALL {
         let payload = vec![0; name.payload_size()];

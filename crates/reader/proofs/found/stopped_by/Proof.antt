@@ -1,12 +1,13 @@
--- `reader::kept::stopped_by` meets its contract. Assumes nothing.
+-- `reader::found::stopped_by` meets its contract. Assumes nothing.
 use mathlib.Core.Path.{_∙_, sym, ap}
 use mathlib.Core.Bool.{Bool, not}
 use borrow.Author.Needs.{needs}
 use Rattle.telegram.specs.Numbers.{refuse, done}
-use Rattle.capture.specs.State.{stopped}
+use Rattle.capture.specs.State.{stoppedFor}
+use Rattle.reader.specs.Layout.{reasonIn}
 use Rattle.reader.proofs.States.{outside}
-use Rattle.reader.proofs.kept.stopped_by.Statement.{statement}
-use Rattle.reader.proofs.kept.stopped_by.Tie as tie
+use Rattle.reader.proofs.found.stopped_by.Statement.{statement}
+use Rattle.reader.proofs.found.stopped_by.Tie as tie
 
 pub stopped-by-spec : {M : Type 1} → statement M
 stopped-by-spec =
@@ -24,7 +25,8 @@ stopped-by-spec =
     (λ c. rw (c .before .match .keys4) (c .stands4 .ensures))
     (λ c. rw (c .before .match .keys5) (c .stands5 .ensures))
     (λ c.
-    let n = c .before .before .args .number in
+    let a = c .before .before .args in
+    let n = a .number in
     let r = c .before .match .rest in
     c .stands-not .ensures
-    ∙ sym (ap (λ (b : Bool). refuse (not b) 11 (done (stopped n))) (outside n (r .0 .0 .0 .0 .1) (r .0 .0 .0 .1) (r .0 .0 .1) (r .0 .1) (r .1)))))
+    ∙ sym (ap (λ (b : Bool). refuse (not b) 11 (done (stoppedFor (reasonIn n (a .computed) (a .received))))) (outside n (r .0 .0 .0 .0 .1) (r .0 .0 .0 .1) (r .0 .0 .1) (r .0 .1) (r .1)))))
