@@ -64,8 +64,8 @@ pub enum Command {
 
 // A dissected telegram.
 pub struct Dissected {
-    pub command: Command,
     pub cast: Cast,
+    pub command: Command,
 }
 
 // What the command dissector answers.
@@ -144,7 +144,7 @@ fn name_command(s: &[u8], t: Telegram) -> Dissection
         Heading::To(cast) => {
             let end = 3 + t.size;
             let command = command_of(t.command, &s[3..end]);
-            Dissection::Accepted(Dissected { command, cast })
+            Dissection::Accepted(Dissected { cast, command })
         }
         Heading::Refused(e) => Dissection::Refused(e),
     }

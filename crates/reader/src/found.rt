@@ -131,7 +131,7 @@ fn no_state() -> Held
     }
 }
 
-// An open state, which most calls meet.
+// An open state.
 fn open_state(mem: &[u8]) -> Held
     requires { ⌜ (readerSize ≤ length (now mem)) × (getD (now mem) 0 0 ≡ 0) ⌝ }
     ensures { λ r. ⌜ heldAs r ≡ stateIn (now (mem .entry)) ⌝ }
@@ -171,6 +171,16 @@ fn any_state(mem: &[u8]) -> Held
 
 // The state that memory holds, if it holds one.
 pub(crate) fn read_state(mem: &[u8]) -> Held
+    ensures { λ r. ⌜ heldAs r ≡ stateIn (now (mem .entry)) ⌝ }
+{
+    if mem.len() < 21 {
+        return no_state();
+    }
+    any_state(mem)
+}
+
+// The same, where an open one is likely.
+pub(crate) fn read_likely_open(mem: &[u8]) -> Held
     ensures { λ r. ⌜ heldAs r ≡ stateIn (now (mem .entry)) ⌝ }
 {
     if mem.len() < 21 {

@@ -7,6 +7,7 @@ mod passing;
 use capture::Next;
 use capture::Reading;
 use capture::Step;
+use found::read_likely_open;
 use found::read_state;
 use kept::keep;
 use kept::keep_carried;
@@ -90,7 +91,7 @@ fn next_carried(reader: &mut [u8], chunk: &[u8], at: &mut usize, out: &mut [u8])
     ensures { λ r. ⌜ now (at .exit) ≡ readerNext (now (reader .entry)) (now (chunk .entry)) (now (at .entry)) (length (now (out .entry))) .at ⌝ }
     ensures { λ r. ⌜ now (out .exit) ≡ leaves (readerNext (now (reader .entry)) (now (chunk .entry)) (now (at .entry)) (length (now (out .entry))) .outcome) (now (out .entry)) ⌝ }
 {
-    let held = read_state(reader);
+    let held = read_likely_open(reader);
     if !held.valid {
         return 11;
     }

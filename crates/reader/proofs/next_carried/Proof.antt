@@ -28,19 +28,19 @@ use Rattle.reader.proofs.next_carried.Statement.{statement}
 use Rattle.reader.proofs.next_carried.Tie as tie
 
 -- what was read out of memory
-held : (c : tie.After-struct-known) (v : Bool) → c .before .read-state .result .valid ≡ v
-    → stateIn (now (c .before .before .before .before .before .before .args .reader)) ≡ refuse (not v) 11 (done (stateOf (c .before .read-state .result .reading)))
+held : (c : tie.After-struct-known) (v : Bool) → c .before .read-likely-open .result .valid ≡ v
+    → stateIn (now (c .before .before .before .before .before .before .args .reader)) ≡ refuse (not v) 11 (done (stateOf (c .before .read-likely-open .result .reading)))
 held c v e =
-    sym (c .before .read-state .ensures)
-    ∙ ap (λ (x : Bool). refuse (not x) 11 (done (stateOf (c .before .read-state .result .reading)))) e
+    sym (c .before .read-likely-open .ensures)
+    ∙ ap (λ (x : Bool). refuse (not x) 11 (done (stateOf (c .before .read-likely-open .result .reading)))) e
 
-holds : (c : tie.Else1) → stateIn (now (c .before .before .before .before .before .before .before .args .reader)) ≡ done (stateOf (c .before .before .read-state .result .reading))
+holds : (c : tie.Else1) → stateIn (now (c .before .before .before .before .before .before .before .args .reader)) ≡ done (stateOf (c .before .before .read-likely-open .result .reading))
 holds c = held (c .before) true (not-false _ (c .if1 .left))
 
-long : (c : tie.After-read-state) → length (c .read-state .result .reading .bytes) ≡ 12
+long : (c : tie.After-read-likely-open) → length (c .read-likely-open .result .reading .bytes) ≡ 12
 long c = search needs
 
-byte : (c : tie.After-read-state) (k : ℕ) → Fits w8 (getD (c .read-state .result .reading .bytes) k 0)
+byte : (c : tie.After-read-likely-open) (k : ℕ) → Fits w8 (getD (c .read-likely-open .result .reading .bytes) k 0)
 byte c k = search needs
 
 each : (c : tie.After-shared-slice-known) → Bytes (now (c .before .before .args .chunk))
@@ -55,7 +55,7 @@ few c f =
     let e = c .next-at .ensures in
     let r = c .before .before .before .before in
     subst (λ (n : ℕ). n ≤ 11) (sym (ap (λ (x : Given). x .state .count) e))
-    (next-few (stateOf (r .read-state .result .reading)) (long r) (λ i. byte r i .fits)
+    (next-few (stateOf (r .read-likely-open .result .reading)) (long r) (λ i. byte r i .fits)
     (held-sums _ _ (holds (c .before .before)) (λ i. omega (arith, r .before .before .before .before .slice-known .given i)))
     _ _ (each (r .before .before .before)) (λ z. f (ap (λ (x : Given). x .answer) e ∙ z)))
 
@@ -74,7 +74,7 @@ waits : (c : tie.After-next-at) → stepAs (c .next-at .result .step) ≡ done m
     (r .count ≤ 11) × (21 ≤ length m) × (standingOf (r .phase) ≡ going) × (getD m 0 0 ≡ 0) × (positionIn m ≡ r .position)
 waits c e =
     let m = now (start c .args .reader) in
-    let s = stateOf (c .before .before .before .before .read-state .result .reading) in
+    let s = stateOf (c .before .before .before .before .read-likely-open .result .reading) in
     let g = c .next-at .ensures in
     let w = next-waits _ s _ (sym (ap (λ (x : Given). x .answer) g) ∙ e) in
     let o = held-open s m (holds (c .before .before)) (w .0) in (
@@ -88,7 +88,7 @@ waits c e =
 size : (c : tie.After-next-at) (t : Telegram) → stepAs (c .next-at .result .step) ≡ done (telegram t) → t .size ≤ 8
 size c t e =
     let r = c .before .before .before .before in
-    next-fits _ (stateOf (r .read-state .result .reading)) _ (λ i. byte r i .fits) (each (r .before .before .before)) .size t
+    next-fits _ (stateOf (r .read-likely-open .result .reading)) _ (λ i. byte r i .fits) (each (r .before .before .before)) .size t
     (sym (ap (λ (x : Given). x .answer) (c .next-at .ensures)) ∙ e)
 
 -- the call by what the reading answered

@@ -11,8 +11,5 @@ read-state-spec =
     (tie.spec
     (λ c κs. search needs)
     (λ c. c .no-state .ensures ∙ state-short _ (c .before .if1 .taken))
-    (λ c. search needs)
-    (λ c κs. search needs)
-    (λ c. search needs)
     (λ c κs. search needs)
     (λ c. search needs))
