@@ -51,7 +51,7 @@ enum {
     OSP_ERR_PREAMBLE = 2,     /* preamble is not 1010 */
     OSP_ERR_SIZE_INDEX = 3,   /* size index 5 */
     OSP_ERR_BYTE_COUNT = 4,   /* byte count is not 4 + payload size */
-    OSP_ERR_CHECKSUM = 5,     /* checksum differs */
+    OSP_ERR_CHECKSUM = 5,     /* checksum differs; OSP_COMPUTED and OSP_RECEIVED have both */
     OSP_ERR_COMMAND = 6,      /* unknown command, or an answer to a command that has none */
     OSP_ERR_CAST = 7,         /* cast not allowed, or init at 000 while a lamp has no address */
     OSP_ERR_PAYLOAD_SIZE = 8, /* payload size wrong for the command */
