@@ -3,6 +3,7 @@
 -- Assumes nothing.
 use Prim.Native.Nat.{ℕ}
 use mathlib.Core.Path.{_≡_}
+use mathlib.Core.Bool.{true}
 use mathlib.Core.List.{List, _++_}
 use lib.ListN.{take, drop}
 use Rattle.telegram.specs.Numbers.{Reason, refusedFor}
@@ -11,7 +12,6 @@ use Rattle.telegram.specs.Carried.{Carried}
 use Rattle.frame.specs.Frame.{whole, cutting}
 use Rattle.capture.specs.State.{going, stoppedFor, State, resting, carriedIn, isLeft}
 use Rattle.capture.specs.Calls.{without, nexting, closing, scanning}
-use mathlib.Core.Bool.{true}
 
 -- "Chunk reading passes both on": where the reader refuses a telegram that is whole, the call gives that refusal, and the reading stays
 -- stopped for it. (`EndAndRefusalRepeat` in Uncut.antt: every later call repeats it.)

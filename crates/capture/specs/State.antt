@@ -79,6 +79,7 @@ stopsWith n (c ∷ []) = false
 stopsWith n (c ∷ r ∷ []) = eqb n 5 && not (eqb c r)
 stopsWith n (c ∷ r ∷ x ∷ l) = false
 
+-- The same of a reason.
 abbrev pub stops : Reason → Bool
 stops e = stopsWith (e .number) (e .carries)
 

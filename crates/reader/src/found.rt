@@ -131,7 +131,7 @@ fn no_state() -> Held
     }
 }
 
-// An open state.
+// The state in memory whose first byte says open: it holds no checksums, so bytes 10 to 20 are carried as they stand.
 fn open_state(mem: &[u8]) -> Held
     requires { ⌜ (readerSize ≤ length (now mem)) × (getD (now mem) 0 0 ≡ 0) ⌝ }
     ensures { λ r. ⌜ heldAs r ≡ stateIn (now (mem .entry)) ⌝ }
@@ -147,7 +147,7 @@ fn open_state(mem: &[u8]) -> Held
     }
 }
 
-// Any state.
+// The state in memory of 21 bytes or more, whatever its first byte says.
 fn any_state(mem: &[u8]) -> Held
     requires { ⌜ readerSize ≤ length (now mem) ⌝ }
     ensures { λ r. ⌜ heldAs r ≡ stateIn (now (mem .entry)) ⌝ }
@@ -179,7 +179,7 @@ pub(crate) fn read_state(mem: &[u8]) -> Held
     any_state(mem)
 }
 
-// The same, where an open one is likely.
+// The same for a chunk, where the reader is nearly always open: that case is tested first and stays short (docs/DECISIONS.md).
 pub(crate) fn read_likely_open(mem: &[u8]) -> Held
     ensures { λ r. ⌜ heldAs r ≡ stateIn (now (mem .entry)) ⌝ }
 {
