@@ -80,6 +80,8 @@ def main(argv):
                 print("FALL TOGETHER", new, old)
         return 0
     for place, name in LEMMAS:
+        if name not in table.values():  # it has run already
+            continue
         for p in antt:
             if p.startswith(place):
                 old = read(p)

@@ -13,7 +13,7 @@ use Rattle.capture.proofs.Repeating.{end-and-refusal-repeat}
 use Rattle.capture.proofs.Eleven.{eleven-exact}
 use Rattle.reader.specs.Layout.{holding}
 use Rattle.reader.specs.Interface.{Called, written, kept_by, answering, Ended, end_answering, reader_next}
-use Rattle.reader.specs.Kept.{StateComesBack, HeldStays, TakenIn, replied, silent, NextInMemory, EndInMemory, AsOnTheState, told_in_lem, EndAndRefusalRepeatInMemory}
+use Rattle.reader.specs.Kept.{StateComesBack, HeldStays, TakenIn, replied, silent, NextInMemory, EndInMemory, AsOnTheState, told_in, EndAndRefusalRepeatInMemory}
 use Rattle.reader.proofs.States.{state-long}
 use Rattle.reader.proofs.Few.{Fits, next_fits, next-position, end-position}
 use Rattle.reader.proofs.Exits.{next-told, end-told, position-by}
@@ -21,7 +21,7 @@ use Rattle.reader.proofs.Back.{state-comes-back}
 use Rattle.reader.proofs.Holding.{held_stays, held-taken, held-position, kept-taken}
 
 -- Bytes that were written are a telegram, unless they are none.
-one_told : (w : List ℕ) → 1 ≤ length w → told_in_lem (done w) ≡ w ∷ []
+one_told : (w : List ℕ) → 1 ≤ length w → told_in (done w) ≡ w ∷ []
 one_told [] l = absurd (omega arith)
 one_told (b ∷ w) l = refl
 
@@ -88,7 +88,7 @@ module _ (s : State) (mem : List ℕ) (k : TakenIn s mem) where
         }
 
     -- So it writes the telegram that the call gives.
-    told-as : (o : Outcome Reply) → g.answer ≡ o → told_in_lem (replied o (λ (r : Reply). written r g.bytes)) ≡ told_by o g.bytes
+    told-as : (o : Outcome Reply) → g.answer ≡ o → told_in (replied o (λ (r : Reply). written r g.bytes)) ≡ told_by o g.bytes
     told-as (refused_for d) e = refl
     told-as (done more) e = refl
     told-as (done over) e = refl
@@ -120,10 +120,10 @@ as-on-the-state s mem k =
 
 -- The telegram that a call writes.
 pub told_in_lem : (s : State) (mem : List ℕ) → TakenIn s mem → (c : List ℕ) (at room : ℕ) → Bytes c → 12 ≤ room
-    → told_in_lem (reader_next mem c at room).outcome ≡ told (nexting c s at)
+    → told_in (reader_next mem c at room).outcome ≡ told (nexting c s at)
 unfolding AsOnTheState
 told_in_lem s mem k c at room y h =
-    ap told_in_lem ((as-on-the-state s mem k).next c at room y h).outcome ∙ told-as s mem k c at room y h (nexting c s at).answer refl
+    ap told_in ((as-on-the-state s mem k).next c at room y h).outcome ∙ told-as s mem k c at room y h (nexting c s at).answer refl
 
 -- After an end or a refusal.
 module _ (s : State) (mem : List ℕ) (stays : holding s mem ≡ mem) where
