@@ -1,4 +1,6 @@
 // Answers: document 01, "Commands", on answers.
+#![tactic(auto)]
+
 ghost use Rattle.std.specs.Prelude.{◌≡◌, ◌+◌, ◌*◌, ◌≤◌, ◌<◌, true, [], ◌∷◌, length};
 ghost use Rattle.telegram.specs.Numbers.{done};
 ghost use Rattle.table.specs.Table.{answer_size_of, acknowledged};
@@ -11,7 +13,7 @@ use table::Entry;
 use telegram::{Address, Read, Refusal, Telegram};
 
 // The acknowledged commands, whose answers are alike.
-#[derive(Drop)]
+#[derive(Clone, Copy)]
 pub enum Acknowledged {
     GoSleep,
     GoActive,
@@ -23,7 +25,7 @@ pub enum Acknowledged {
 }
 
 // The answers to the commands that have one, with their values.
-#[derive(Drop)]
+#[derive(Clone, Copy)]
 pub enum Answer {
     InitBidir(u8, u8),
     InitLoop(u8, u8),
@@ -39,14 +41,14 @@ pub enum Answer {
 }
 
 // A dissected answer, with the address of the lamp that gave it.
-#[derive(Drop)]
+#[derive(Clone, Copy)]
 pub struct Answered {
     pub address: Address,
     pub answer: Answer,
 }
 
 // What the answer dissector answers.
-#[derive(Drop)]
+#[derive(Clone, Copy)]
 pub enum AnswerDissection {
     Accepted(Answered),
     Refused(Refusal),

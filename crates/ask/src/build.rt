@@ -6,14 +6,14 @@ use text::reading::{Number, Span};
 use words::Named;
 
 // To whom a telegram goes, and where the next word is looked for.
-#[derive(Drop)]
+#[derive(Clone, Copy)]
 pub enum Directed {
     To(Cast, usize),
     Nobody,
 }
 
 // The command that the words behind the address say: done, a refusal, or words that are wrong.
-#[derive(Drop)]
+#[derive(Clone, Copy)]
 pub enum Composition {
     Done(Command),
     Refused(u32),
@@ -21,7 +21,7 @@ pub enum Composition {
 }
 
 // A mode and a duty, and where the next word is looked for.
-#[derive(Drop)]
+#[derive(Clone, Copy)]
 pub enum Colour {
     Of(Pwm, usize),
     Wrong,

@@ -1,5 +1,7 @@
 // The subcommands that answer from the command table: build, info and help. docs/TOOL.md has the forms. Each takes the words behind its name,
 // separated by a byte 0, and a descriptor for errors, and answers its status.
+#![tactic(auto)]
+
 pub mod build;
 pub mod info;
 

@@ -1,4 +1,6 @@
 // Two tests joined, and a word and its two bytes: what every layer above uses.
+#![tactic(auto)]
+
 ghost use Rattle.std.specs.Prelude.{◌≡◌, ◌&&◌, ◌||◌, ◌+◌, ◌*◌, ◌/◌, ◌%◌};
 
 // Whether both hold.

@@ -5,7 +5,7 @@ ghost use Rattle.capture.specs.Calls.{next_as, nexting};
 
 use crate::{Next, Reading, next_at};
 
-#[derive(Drop)]
+#[derive(Clone, Copy)]
 pub struct Reader<'a> {
     pub chunk: &'a [u8],
     pub carried: Reading,

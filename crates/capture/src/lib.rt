@@ -1,4 +1,6 @@
 // Captures as they arrive, document 02, request 01: telegrams read from chunks that are cut anywhere.
+#![tactic(auto)]
+
 mod chunk;
 mod gather;
 mod state;
@@ -16,7 +18,7 @@ use telegram::{Refusal, Telegram};
 use whole_chunk::scan_open;
 
 // Whether a reading goes on: open, ended, or stopped by a refusal.
-#[derive(Drop)]
+#[derive(Clone, Copy)]
 pub enum Phase {
     Open,
     Ended,
@@ -25,7 +27,7 @@ pub enum Phase {
 
 // What a reading remembers from one chunk to the next: the bytes of an unfinished telegram, up to 11 and zeros behind them (the twelfth
 // place is for the byte that completes the longest one), and the position of the first byte that belongs to no telegram given so far.
-#[derive(Drop)]
+#[derive(Clone, Copy)]
 pub struct Reading {
     pub phase: Phase,
     pub count: usize,
@@ -34,7 +36,7 @@ pub struct Reading {
 }
 
 // What a call gives: a telegram, that more bytes are needed, that the run is done, or a refusal.
-#[derive(Drop)]
+#[derive(Clone, Copy)]
 pub enum Step {
     Telegram(Telegram),
     More,
@@ -43,7 +45,7 @@ pub enum Step {
 }
 
 // The next telegram of a chunk: its bytes with zeros behind them, the index from which the next call reads on, and the reading after it.
-#[derive(Drop)]
+#[derive(Clone, Copy)]
 pub struct Next {
     pub step: Step,
     pub bytes: [u8; 12],
@@ -52,14 +54,14 @@ pub struct Next {
 }
 
 // The end of a run.
-#[derive(Drop)]
+#[derive(Clone, Copy)]
 pub struct Closing {
     pub step: Step,
     pub reading: Reading,
 }
 
 // A whole chunk: how many telegrams it completed, the position of the first byte that belongs to none, and the reading after it.
-#[derive(Drop)]
+#[derive(Clone, Copy)]
 pub struct Scan {
     pub step: Step,
     pub telegrams: usize,

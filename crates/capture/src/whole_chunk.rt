@@ -17,7 +17,7 @@ fn feed(s: Reading, b: u8) -> Reading
 }
 
 // How many telegrams a chunk completed, the position of the first byte that belongs to none, and the reading after it.
-#[derive(Drop)]
+#[derive(Clone, Copy)]
 pub(crate) struct Tally {
     pub telegrams: usize,
     pub position: u64,

@@ -1,7 +1,7 @@
 // The bytes of a case, read from its line, and the numbers that lie in them.
 
 // The bytes of a case as far as they were read from its line.
-#[derive(Drop)]
+#[derive(Clone, Copy)]
 pub(crate) struct Bytes {
     pub(crate) bytes: [u8; 48],
     pub(crate) used: usize,
@@ -10,7 +10,7 @@ pub(crate) struct Bytes {
 }
 
 // Whether a character is a hexadecimal digit, and its value.
-#[derive(Drop)]
+#[derive(Clone, Copy)]
 enum Digit {
     Value(u8),
     Other,

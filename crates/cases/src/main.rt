@@ -1,5 +1,7 @@
 // Runs a file of cases over the C interface: a line of standard input a case, the line and its result to standard output.
 // The cases are the captures of documents 001 and 002 and the edges of document 01; crates/cases/stdin has the form of a line.
+#![tactic(auto)]
+
 mod captures;
 mod chains;
 mod line;

@@ -1,5 +1,7 @@
 // A chain of lamps in lent bytes (docs/RECORD.md): made, given telegrams and sensor reports, read out. Document 01, "A lamp and the
 // chain".
+#![tactic(auto)]
+
 mod change;
 mod delivery;
 mod each_lamp;
@@ -18,35 +20,35 @@ use rules::{Defaults, Lamp, Place};
 use telegram::Refusal;
 
 // What a call on a chain answers: done, with the number of bytes that the answer has, or refused.
-#[derive(Drop)]
+#[derive(Clone, Copy)]
 pub enum Delivered {
     Done(usize),
     Refused(Refusal),
 }
 
 // What reading a lamp out answers.
-#[derive(Drop)]
+#[derive(Clone, Copy)]
 pub enum LampRead {
     Read(Lamp),
     Unread(Refusal),
 }
 
 // Who has an address.
-#[derive(Drop)]
+#[derive(Clone, Copy)]
 pub(crate) enum Found {
     At(Place),
     Nobody,
 }
 
 // Which lamps a command for more than one reaches.
-#[derive(Drop)]
+#[derive(Clone, Copy)]
 pub(crate) enum Reach {
     Everyone,
     Members(u8),
 }
 
 // Whether an accepted telegram may be done.
-#[derive(Drop)]
+#[derive(Clone, Copy)]
 pub(crate) enum Permit {
     Granted,
     Refused(Refusal),

@@ -1,4 +1,6 @@
 // The checksum of a telegram: document 01, "The bytes of a telegram".
+#![tactic(auto)]
+
 ghost use Rattle.std.specs.Prelude.{◌≡◌};
 ghost use Rattle.checksum.specs.Checksum.{shift_bit, remainder_byte, checksum_of};
 

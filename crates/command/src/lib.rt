@@ -1,4 +1,6 @@
 // Commands: document 01, "Commands".
+#![tactic(auto)]
+
 mod numbers;
 mod payload;
 
@@ -14,14 +16,14 @@ use table::{Cast, Destination, Entry};
 use telegram::{Address, Built, Read, Refusal, Telegram};
 
 // A PWM word: the current mode (daytime or night) and the duty, up to 32,767.
-#[derive(Drop)]
+#[derive(Clone, Copy)]
 pub struct Pwm {
     pub day: bool,
     pub duty: u16,
 }
 
 // The commands of the table, with their fields. Those that end in Sr are acknowledged: sent with a status request, document 001's SR.
-#[derive(Drop)]
+#[derive(Clone, Copy)]
 pub enum Command {
     Reset,
     ClearError,
@@ -52,35 +54,35 @@ pub enum Command {
 }
 
 // A dissected telegram.
-#[derive(Drop)]
+#[derive(Clone, Copy)]
 pub struct Dissected {
     pub cast: Cast,
     pub command: Command,
 }
 
 // What the command dissector answers.
-#[derive(Drop)]
+#[derive(Clone, Copy)]
 pub enum Dissection {
     Accepted(Dissected),
     Refused(Refusal),
 }
 
 // What a telegram that was read names: the cast of a command with a payload of the right size.
-#[derive(Drop)]
+#[derive(Clone, Copy)]
 pub enum Heading {
     To(Cast),
     Refused(Refusal),
 }
 
 // What a number and the bytes of a payload make.
-#[derive(Drop)]
+#[derive(Clone, Copy)]
 pub enum Composed {
     Accepted(Command),
     Refused(Refusal),
 }
 
 // A command or an answer laid out: its number, its payload in the first `size` bytes, and whether its duties are in range.
-#[derive(Drop)]
+#[derive(Clone, Copy)]
 pub struct Parts {
     pub number: u8,
     pub bytes: [u8; 8],

@@ -1,4 +1,6 @@
 // What the tool says when something is wrong: one line, "osp: SUBCOMMAND: ..", on a descriptor for errors.
+#![tactic(auto)]
+
 
 // The subcommands by number, as `named` spells them.
 pub const FIELDS: u8 = 0;
@@ -69,7 +71,7 @@ pub const STOPPED: u8 = 23;
 pub const EITHER: u8 = 24;
 
 // A word that somebody gave, as it can stand in a line.
-#[derive(Drop)]
+#[derive(Clone, Copy)]
 struct Plain {
     text: [u8; 60],
     size: usize,

@@ -1,4 +1,6 @@
 // osp dump: a raw capture, listed telegram by telegram as it arrives, in constant memory. docs/TOOL.md has the forms.
+#![tactic(auto)]
+
 mod walk;
 
 use walk::{Manner, Run, Stop};

@@ -5,14 +5,14 @@ use listing::{Piece, Tally};
 use telegram::Refusal;
 
 // What is printed: text or JSON, and with `quiet` the last line alone.
-#[derive(Drop)]
+#[derive(Clone, Copy)]
 pub struct Manner {
     pub json: bool,
     pub quiet: bool,
 }
 
 // Why a run stopped. A capture is refused as `telegram::refusal_value` has it.
-#[derive(Drop)]
+#[derive(Clone, Copy)]
 pub enum Stop {
     Going,
     Ended,
@@ -22,7 +22,7 @@ pub enum Stop {
 }
 
 // How far a run has come: bytes used of the page and of the chunk, what the reading of the capture remembers, the telegrams so far.
-#[derive(Drop)]
+#[derive(Clone, Copy)]
 pub struct Run {
     pub at: usize,
     pub used: usize,

@@ -3,7 +3,7 @@ use verdict::Verdict;
 use words::{Told, bare, values_told};
 
 // A column of the table, for the mark of a failed field.
-#[derive(Drop)]
+#[derive(Clone, Copy)]
 struct Column {
     from: u64,
     width: u64,

@@ -1,7 +1,7 @@
 // What the bytes of a telegram hold, field by field.
 
 // The fields; a byte that is missing counts as 0. `plain` is the number of the command's plain form.
-#[derive(Drop)]
+#[derive(Clone, Copy)]
 pub(crate) struct Facts {
     pub count: usize,
     pub preamble: u8,

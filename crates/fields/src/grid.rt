@@ -3,7 +3,7 @@ use crate::facts::{Facts, facts_of};
 use words::{Told, bare, put_row, values_told};
 
 // A short word as a value.
-#[derive(Drop)]
+#[derive(Clone, Copy)]
 struct Word {
     text: [u8; 16],
     size: usize,

@@ -1,4 +1,6 @@
 // osp fields: document 002's table of a telegram. docs/TOOL.md has the form.
+#![tactic(auto)]
+
 mod below;
 mod facts;
 mod grid;

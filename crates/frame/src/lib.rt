@@ -1,11 +1,13 @@
 // A run of bytes cut into telegrams, without the checksum: document 02, request 01.
+#![tactic(auto)]
+
 ghost use Rattle.std.specs.Prelude.{◌≡◌};
 ghost use Rattle.frame.specs.Frame.{cut_as, cutting};
 
 use telegram::Refusal;
 
 // What the bytes from a telegram's first on show: more are needed, a refusal, or a telegram of so many bytes.
-#[derive(Drop)]
+#[derive(Clone, Copy)]
 pub enum Cut {
     Incomplete,
     Broken(Refusal),

@@ -1,4 +1,6 @@
 // What one lamp does with a command: document 01, "A lamp and the chain"; document 02, request 02.
+#![tactic(auto)]
+
 ghost use Rattle.std.specs.Prelude.{◌≡◌, ◌||◌, not, List, [], ◌∷◌, ◌++◌, ℕ, ◌≤◌, ◌/◌, ◌%◌};
 ghost use Rattle.command.specs.Fields.{word_bytes};
 ghost use Rattle.command.specs.Commands.{numbered};
@@ -10,7 +12,7 @@ use rules::{Defaults, Flags, Lamp, State, Thresholds, Words};
 use telegram::Address;
 
 // The bytes of an answer, in the first `size` bytes.
-#[derive(Drop)]
+#[derive(Clone, Copy)]
 pub struct Payload {
     pub bytes: [u8; 6],
     pub size: usize,

@@ -1,11 +1,13 @@
 // A lamp for people and for machines: a row of a table, an object, or a disc of a picture. docs/TOOL.md has the forms.
+#![tactic(auto)]
+
 mod board;
 
 use rules::Lamp;
 use words::{Told, values_told};
 
 // How a chain is shown.
-#[derive(Drop)]
+#[derive(Clone, Copy)]
 pub enum Look {
     Table,
     Objects,

@@ -1,5 +1,7 @@
 // A line of a script, or a telegram of a raw capture in place of it: what it says, and what is printed of it once it was done, as text and
 // as JSON. docs/TOOL.md has the forms.
+#![tactic(auto)]
+
 mod json;
 mod plain;
 
@@ -8,7 +10,7 @@ use text::reading::Number;
 use words::{put_told, texts, values_told};
 
 // What is printed of each line.
-#[derive(Drop)]
+#[derive(Clone, Copy)]
 pub enum Style {
     Text,
     Json,
@@ -16,7 +18,7 @@ pub enum Style {
 }
 
 // What a text holds: lines that end with a line feed, the last line, which need not, or whole telegrams of a capture.
-#[derive(Drop)]
+#[derive(Clone, Copy)]
 pub enum Holds {
     Lines,
     LastLine,
@@ -24,7 +26,7 @@ pub enum Holds {
 }
 
 // What a line is. One that has no line feed yet is open; a telegram of a capture stands in no line.
-#[derive(Drop)]
+#[derive(Clone, Copy)]
 pub enum Kind {
     Open,
     Blank,
@@ -36,7 +38,7 @@ pub enum Kind {
 
 // A line: the first bytes of its telegram and how many it has, at most 16 of them here; or its sensor report. `next` is where the line
 // behind it begins in a text, `step` how far that one is: a line, or the bytes of a telegram of a capture.
-#[derive(Drop)]
+#[derive(Clone, Copy)]
 pub struct Line {
     pub kind: Kind,
     pub next: usize,
@@ -49,7 +51,7 @@ pub struct Line {
 }
 
 // What a chain gave for a line: its refusal as `telegram::refusal_value` has it, and the answer in the first bytes of a room, of 12 at most.
-#[derive(Drop)]
+#[derive(Clone, Copy)]
 pub struct Given {
     pub refusal: u32,
     pub answer: [u8; 16],

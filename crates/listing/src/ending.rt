@@ -3,7 +3,7 @@ use verdict::Verdict;
 use words::{Told, values_told};
 
 // How many telegrams there were, and how many of them were commands, answers, either and neither.
-#[derive(Drop)]
+#[derive(Clone, Copy)]
 pub struct Tally {
     pub telegrams: u64,
     pub commands: u64,

@@ -1,5 +1,7 @@
 // What is printed of a raw capture: a telegram, the refused one that ends it, the last line; as text and as JSON. docs/TOOL.md has the
 // forms.
+#![tactic(auto)]
+
 mod ending;
 mod refused;
 
@@ -9,7 +11,7 @@ use verdict::Verdict;
 use words::{Message, objects, put_told, texts, values_told};
 
 // A telegram of a capture, or what is shown of a refused one: the position of its first byte, and its bytes, `count` of them.
-#[derive(Drop)]
+#[derive(Clone, Copy)]
 pub struct Piece {
     pub position: u64,
     pub bytes: [u8; 16],

@@ -1,9 +1,11 @@
 // The options of replay, board and dump: the words behind the subcommand's name, with a byte 0 behind each.
+#![tactic(auto)]
+
 use text::reading::Number;
 
 // What the options said. `next` is what the next word is: 0 an option or the file, 1 lamps, 2 setup, 3 to 5 a threshold. `wrong` is the
 // complaint about them.
-#[derive(Drop)]
+#[derive(Clone, Copy)]
 pub struct Options {
     pub lamps: u32,
     pub counted: bool,

@@ -1,4 +1,6 @@
 // The C interface: thin exported functions over numbers and byte slices. include/osp.h has their declarations.
+#![tactic(auto)]
+
 mod casts;
 mod chains;
 mod given;
@@ -15,7 +17,7 @@ pub use telegrams::{
 };
 
 // A cast from two numbers.
-#[derive(Drop)]
+#[derive(Clone, Copy)]
 pub enum Directed {
     To(Cast),
     OutOfRange,

@@ -1,18 +1,20 @@
 // A raw capture read from its file as it arrives, and each telegram of it done on a chain, in constant memory. The crate `capture` says how
 // far its telegrams are whole, `script` does them as those of a script.
+#![tactic(auto)]
+
 use capture::{Phase, Reading};
 use lines::{Holds, Style};
 use script::{Run, Stop};
 
 // A capture that was done: the run, and the refusal of the capture itself behind that many bytes, as `telegram::refusal_value` has it.
-#[derive(Drop)]
+#[derive(Clone, Copy)]
 pub struct Played {
     pub run: Run,
     pub refusal: u32,
 }
 
 // A capture that is being done: the run, and what the reading remembers. `used` of the run counts the bytes that are carried.
-#[derive(Drop)]
+#[derive(Clone, Copy)]
 struct Walk {
     run: Run,
     reading: Reading,

@@ -9,7 +9,7 @@ use capture::{Phase, Reading};
 use telegram::{Checksums, Refusal};
 
 // How a reading stands, if the first two bytes say it.
-#[derive(Drop)]
+#[derive(Clone, Copy)]
 pub(crate) struct Begun {
     pub valid: bool,
     pub phase: Phase,

@@ -1,5 +1,7 @@
 // The reader of a capture over lent memory: document 02, request 01, as C callers use it. What each function returns is a number of the
 // paper and a count in one.
+#![tactic(auto)]
+
 mod found;
 mod kept;
 mod passing;
@@ -17,7 +19,7 @@ use passing::{pass, read_whole};
 use telegram::{Read, Refusal};
 
 // A state read out of memory, if it holds one.
-#[derive(Drop)]
+#[derive(Clone, Copy)]
 pub struct Held {
     pub valid: bool,
     pub reading: Reading,

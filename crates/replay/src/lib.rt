@@ -1,5 +1,7 @@
 // osp replay and osp board: a script of telegrams and sensor reports, or a raw capture, done on a fresh chain, and the chain after it, as a
 // table, as JSON or as a picture. docs/TOOL.md has the forms.
+#![tactic(auto)]
+
 use chain::{Delivered, LampRead};
 use lamps::Look;
 use lines::Style;

@@ -1,12 +1,14 @@
 // A lamp and its registers: the types of which the written rules in specs/ speak. Document 01, "A lamp and the chain".
+#![tactic(auto)]
+
 use telegram::Address;
 
 // Document 01's place: where a lamp stands in the chain. Place 0 is the lamp nearest the host. Not an address.
-#[derive(Drop)]
+#[derive(Clone, Copy)]
 pub struct Place(pub usize);
 
 // What a lamp is doing.
-#[derive(Drop)]
+#[derive(Clone, Copy)]
 pub enum State {
     Uninitialized,
     Sleep,
@@ -15,7 +17,7 @@ pub enum State {
 }
 
 // The five fault flags, in the order of the status byte.
-#[derive(Drop)]
+#[derive(Clone, Copy)]
 pub struct Flags {
     pub otpcrc: bool,
     pub ce: bool,
@@ -25,7 +27,7 @@ pub struct Flags {
 }
 
 // The three bytes of the overtemperature register, in the order in which they are sent: filter cycle, low and high threshold.
-#[derive(Drop)]
+#[derive(Clone, Copy)]
 pub struct Thresholds {
     pub cycle: u8,
     pub low: u8,
@@ -33,7 +35,7 @@ pub struct Thresholds {
 }
 
 // The six PWM bytes as three words, high byte first.
-#[derive(Drop)]
+#[derive(Clone, Copy)]
 pub struct Words {
     pub red: u16,
     pub green: u16,
@@ -41,14 +43,14 @@ pub struct Words {
 }
 
 // Document 01's defaults: what a chain is made with and keeps.
-#[derive(Drop)]
+#[derive(Clone, Copy)]
 pub struct Defaults {
     pub setup: u8,
     pub thresholds: Thresholds,
 }
 
 // A lamp. The direction is COM: false is bidirectional, true is loop.
-#[derive(Drop)]
+#[derive(Clone, Copy)]
 pub struct Lamp {
     pub address: Address,
     pub state: State,

@@ -1,5 +1,7 @@
 // A script read from a file and done on a chain, line by line, in constant memory; a telegram of a raw capture done likewise. The crate
 // `lines` has what a line says and what is printed of it.
+#![tactic(auto)]
+
 mod file;
 
 use chain::Delivered;
@@ -9,7 +11,7 @@ use lines::{Given, Holds, Kind, Line, Style};
 use rules::Place;
 
 // Why a run stopped.
-#[derive(Drop)]
+#[derive(Clone, Copy)]
 pub enum Stop {
     Going,
     Ended,
@@ -21,7 +23,7 @@ pub enum Stop {
 
 // How far a run has come: bytes used of the page, lines of the script or bytes of the capture that were done, bytes of the text that were
 // taken, whether the chain refused anything, whether it did a telegram of the capture that may be an answer.
-#[derive(Drop)]
+#[derive(Clone, Copy)]
 pub struct Run {
     pub at: usize,
     pub line: u64,

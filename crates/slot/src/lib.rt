@@ -1,4 +1,6 @@
 // The bytes of one lamp in the record (docs/RECORD.md): a lamp of its slot, and the slot of a lamp. Every sixteen bytes are a slot.
+#![tactic(auto)]
+
 ghost use Rattle.std.specs.Prelude.{◌≡◌, ◌+◌, ◌*◌, eqb};
 ghost use Rattle.rules.specs.Chain.{address_right, lamp_right};
 ghost use Rattle.slot.specs.Slot.{state_in, flags_in, lamp_of, slot_of};

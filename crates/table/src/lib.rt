@@ -1,4 +1,6 @@
 // The table of commands, and addresses as casts: document 01, "Addresses and casts" and the table of "Commands".
+#![tactic(auto)]
+
 ghost use Rattle.std.specs.Prelude.{◌≡◌};
 ghost use Rattle.table.specs.Casts.{destination, destination_as, address_of, cast_in_range};
 ghost use Rattle.table.specs.Table.{row_of, entry_as, acknowledged, plain_number, cast_listed, payload_fits, lists_cast};
@@ -6,7 +8,7 @@ ghost use Rattle.table.specs.Table.{row_of, entry_as, acknowledged, plain_number
 use telegram::Address;
 
 // The table's column of casts: all three; one lamp; a first address or everyone.
-#[derive(Drop)]
+#[derive(Clone, Copy)]
 pub enum Casts {
     All,
     Single,
@@ -14,7 +16,7 @@ pub enum Casts {
 }
 
 // A row of the table: the casts, and how many bytes the payload and the answer have.
-#[derive(Drop)]
+#[derive(Clone, Copy)]
 pub struct Row {
     pub casts: Casts,
     pub payload: usize,
@@ -22,7 +24,7 @@ pub struct Row {
 }
 
 // What the table has for a number.
-#[derive(Drop)]
+#[derive(Clone, Copy)]
 pub enum Entry {
     Known(Row),
     Unknown,
@@ -30,7 +32,7 @@ pub enum Entry {
 
 // Document 01's cast, to whom a command goes: everyone (broadcast), one lamp (unicast) or a group. An init's first address
 // is named as one lamp.
-#[derive(Drop)]
+#[derive(Clone, Copy)]
 pub enum Cast {
     Everyone,
     One(Address),
@@ -38,7 +40,7 @@ pub enum Cast {
 }
 
 // What an address stands for as a destination.
-#[derive(Drop)]
+#[derive(Clone, Copy)]
 pub enum Destination {
     To(Cast),
     Nobody,

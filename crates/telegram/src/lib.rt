@@ -1,4 +1,6 @@
 // Single telegrams: document 01, "The bytes of a telegram" and "Numbers given back".
+#![tactic(auto)]
+
 mod refusals;
 
 ghost use Rattle.std.specs.Prelude.{◌≡◌, ◌+◌, ◌*◌, ◌/◌, ◌%◌, ◌≤◌, ◌<◌, ◌++◌, length, take, drop, set};
@@ -9,11 +11,11 @@ ghost use Rattle.telegram.specs.Telegram.{read_as, index_from, size_of, framing,
 pub use refusals::{checksums_of, refusal_number, refusal_of, refusal_value};
 
 // An address on the chain, of 10 bits. A lamp's place in the chain is another kind of number, with a type of its own.
-#[derive(Drop)]
+#[derive(Clone, Copy)]
 pub struct Address(pub u16);
 
 // A telegram that was read. Its payload stays in the slice: `size` bytes from index 3 on.
-#[derive(Drop)]
+#[derive(Clone, Copy)]
 pub struct Telegram {
     pub address: Address,
     pub command: u8,
@@ -21,7 +23,7 @@ pub struct Telegram {
 }
 
 // The refusals of document 01 in the order of their numbers, 1 to 13. A wrong checksum has the one worked out and the one received.
-#[derive(Drop)]
+#[derive(Clone, Copy)]
 pub enum Refusal {
     TooShort,
     Preamble,
@@ -39,21 +41,21 @@ pub enum Refusal {
 }
 
 // The checksums that a refusal has: the one worked out and the one received, or none.
-#[derive(Drop)]
+#[derive(Clone, Copy)]
 pub enum Checksums {
     Both(u8, u8),
     None,
 }
 
 // What the reader answers.
-#[derive(Drop)]
+#[derive(Clone, Copy)]
 pub enum Read {
     Accepted(Telegram),
     Refused(Refusal),
 }
 
 // What a builder answers: how many bytes it wrote, or why it wrote none.
-#[derive(Drop)]
+#[derive(Clone, Copy)]
 pub enum Built {
     Done(usize),
     Refused(Refusal),

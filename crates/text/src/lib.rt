@@ -1,5 +1,7 @@
 // Text for people: words, numbers and hex put into a lent buffer, and read from one. What does not fit is left out, and every
 // function takes every argument, so that callers have nothing to show.
+#![tactic(auto)]
+
 pub mod reading;
 
 ghost use Rattle.std.specs.Prelude.{◌≡◌, ◌+◌, ◌-◌, ◌/◌, ◌%◌, min, [], ◌∷◌, ◌++◌, map, length, take, drop, replicate, if◌then◌else◌, nat_eq, slice_index};

@@ -3,14 +3,14 @@ ghost use Rattle.std.specs.Prelude.{◌≡◌, map, slice_set};
 ghost use Rattle.text.specs.Putting.{text, appended_all, unseparated, argument};
 
 // Where a word stands in a line.
-#[derive(Drop)]
+#[derive(Clone, Copy)]
 pub struct Span {
     pub from: usize,
     pub to: usize,
 }
 
 // How far bytes in hex were read: where they end in the line, and how many there were.
-#[derive(Drop)]
+#[derive(Clone, Copy)]
 pub struct Hex {
     pub at: usize,
     pub count: usize,
@@ -142,7 +142,7 @@ pub fn word_at(s: &[u8], at: usize) -> Span {
 }
 
 // A number in decimal, or none.
-#[derive(Drop)]
+#[derive(Clone, Copy)]
 pub enum Number {
     Value(u32),
     Wrong,

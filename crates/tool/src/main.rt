@@ -1,8 +1,10 @@
 // osp, the tool: its arguments, and a script of subcommands. docs/TOOL.md has what each reads and prints.
+#![tactic(auto)]
+
 use libc::{STDERR_FILENO, STDOUT_FILENO};
 
 // The arguments joined into one line, a byte 0 behind each, and whether there was room.
-#[derive(Drop)]
+#[derive(Clone, Copy)]
 struct Line {
     used: usize,
     fits: bool,

@@ -1,10 +1,12 @@
 // What a telegram is: a command, an answer or either, in words, or refused as both.
+#![tactic(auto)]
+
 use answer::AnswerDissection;
 use command::Dissection;
 use words::Message;
 
 // A command, an answer, either of them, or its refusals as a command and as an answer, as `telegram::refusal_value` has them.
-#[derive(Drop)]
+#[derive(Clone, Copy)]
 pub enum Verdict {
     Sent,
     Given,

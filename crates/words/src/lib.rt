@@ -1,5 +1,7 @@
 // What the tool calls things: commands, casts, refusals, states and flags, and a telegram in words. docs/TOOL.md has the
 // forms. A function named `put_..` appends to a lent buffer of which `at` bytes are used, and answers how many are used then.
+#![tactic(auto)]
+
 mod names;
 pub mod objects;
 mod reasons;
@@ -12,7 +14,7 @@ use telegram::{Address, Read};
 pub use texts::book;
 
 // A command or an answer by its numbers: the address that it goes to or comes from, the command, and the payload's bytes.
-#[derive(Drop)]
+#[derive(Clone, Copy)]
 pub struct Message {
     pub address: u16,
     pub number: u8,
@@ -21,14 +23,14 @@ pub struct Message {
 }
 
 // What is to be put: a row of a table of forms, and the values that its letters take, in their order.
-#[derive(Drop)]
+#[derive(Clone, Copy)]
 pub struct Told {
     pub row: u8,
     pub values: [u64; 8],
 }
 
 // How far a form was put: bytes used of the buffer, and where the form goes on.
-#[derive(Drop)]
+#[derive(Clone, Copy)]
 struct Progress {
     at: usize,
     index: usize,

@@ -4,14 +4,14 @@ use crate::texts::NAMES_AT;
 use text::put;
 
 // The command that a name says, by its number.
-#[derive(Drop)]
+#[derive(Clone, Copy)]
 pub enum Named {
     Command(u8),
     Nothing,
 }
 
 // A name as a value.
-#[derive(Drop)]
+#[derive(Clone, Copy)]
 struct Name {
     text: [u8; 16],
     size: usize,
