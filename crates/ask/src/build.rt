@@ -156,7 +156,7 @@ fn print_bytes(s: &[u8], err: i32) -> u8 {
         err,
         complaint::BUILD,
         text::from(&page, 1),
-        std::num::wrapping_sub_usize(n, 1),
+        n.wrapping_sub(1),
         0,
     )
 }

@@ -10,13 +10,11 @@ fn page_for(word: &[u8]) -> usize {
     if word.len() == 0 {
         return 0;
     }
-    std::num::wrapping_add_usize(
-        text::line_in(
-            b"fields\nbuild\ninfo\nreplay\nboard\ndump\nscript\nhelp\n",
-            word,
-        ),
-        1,
+    text::line_in(
+        b"fields\nbuild\ninfo\nreplay\nboard\ndump\nscript\nhelp\n",
+        word,
     )
+    .wrapping_add(1)
 }
 
 // Prints how the subcommands are called.

@@ -59,7 +59,7 @@ fn next_whole(s: &[u8], carried: Reading, at: usize) -> Next
         step: Step::Telegram(t),
         bytes: placed([0; 12], 0, s),
         at: at + (k - carried.count),
-        reading: resting(Phase::Open, std::num::wrapping_add_u64(position, k as u64)),
+        reading: resting(Phase::Open, position.wrapping_add(k as u64)),
     }
 }
 

@@ -29,7 +29,7 @@ fn slot_bytes(mem: &[u8], p: Place) -> [u8; slot::SIZE]
     let at = slot_at(p);
     let end = at + slot::SIZE;
     let mut bytes = [0u8; slot::SIZE];
-    bytes::copy(&mem[at..end], &mut bytes);
+    bytes.copy_from_slice(&mem[at..end]);
     bytes
 }
 
@@ -62,7 +62,7 @@ fn put_bytes(mem: &mut [u8], at: usize, src: &[u8])
     requires { at + length src.now ≤ length mem.old }
     ensures { mem.new ≡ (take at mem.old ++ src.now) ++ drop (at + length src.now) mem.old }
 {
-    bytes::copy(src, &mut mem[at..]);
+    mem[at..at + src.len()].copy_from_slice(src);
 }
 
 // Stores a lamp at a place.

@@ -1,7 +1,6 @@
 // What the tool says when something is wrong: one line, "osp: SUBCOMMAND: ..", on a descriptor for errors.
 #![tactic(auto)]
 
-
 // The subcommands by number, as `named` spells them.
 pub const FIELDS: u8 = 0;
 

@@ -94,7 +94,7 @@ fn list_telegram(out: &mut [u8], book: &[u8], manner: Manner, p: Piece, before: 
 fn piece_of(position: u64, before: &[u8], rest: &[u8]) -> Piece {
     let mut bytes = [0u8; 16];
     let n = text::put(&mut bytes, 0, before);
-    let more = text::first(rest, std::num::wrapping_sub_usize(12, n));
+    let more = text::first(rest, 12.wrapping_sub(n));
     let count = text::put(&mut bytes, n, more);
     Piece {
         position,
@@ -149,7 +149,7 @@ fn list_step(s: &[u8], out: &mut [u8], book: &[u8], manner: Manner, run: Run, ne
     let reading = run.reading;
     match step {
         Step::Telegram(t) => {
-            let n = std::num::wrapping_add_usize(t.size, 4);
+            let n = t.size.wrapping_add(4);
             let p = piece_of(reading.position, text::first(&bytes, n), b"");
             list_telegram(out, book, manner, p, run)
         }
@@ -189,7 +189,7 @@ fn count_chunk(s: &[u8], run: Run) -> Run {
     let scan = capture::scan_chunk(s, before);
     let reading = scan.reading;
     let mut tally = run.tally;
-    tally.telegrams = std::num::wrapping_add_u64(tally.telegrams, scan.telegrams as u64);
+    tally.telegrams = tally.telegrams.wrapping_add(scan.telegrams as u64);
     let mut next = run;
     next.reading = reading;
     next.tally = tally;

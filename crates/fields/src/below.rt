@@ -19,7 +19,7 @@ pub(crate) fn is_refused(v: Verdict) -> u8 {
 
 // How many characters n bytes take, less some.
 fn less(n: u64, some: u64) -> u64 {
-    std::num::wrapping_sub_u64(n % 256 * 16, some)
+    (n % 256 * 16).wrapping_sub(some)
 }
 
 // The column of the field that a refusal is about, in a table of n bytes. 4 and 5 are given to 4 bytes and more, 1 to one and more.

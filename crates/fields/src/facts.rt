@@ -15,7 +15,7 @@ pub(crate) struct Facts {
 
 // The checksum of all bytes but the last.
 fn computed(s: &[u8]) -> u8 {
-    checksum::checksum(text::first(s, std::num::wrapping_sub_usize(s.len(), 1)))
+    checksum::checksum(text::first(s, s.len().wrapping_sub(1)))
 }
 
 pub(crate) fn facts_of(s: &[u8]) -> Facts {
@@ -29,7 +29,7 @@ pub(crate) fn facts_of(s: &[u8]) -> Facts {
         index: b1 % 4 * 2 + b2 / 128,
         number: b2 % 128,
         plain: table::plain_number(b2 % 128),
-        received: text::byte_at(s, std::num::wrapping_sub_usize(s.len(), 1)),
+        received: text::byte_at(s, s.len().wrapping_sub(1)),
         computed: computed(s),
     }
 }

@@ -45,13 +45,13 @@ fn bottom_of(lamps: u16) -> u64 {
     if lamps == 0 {
         return 20;
     }
-    std::num::wrapping_add_u64(top_of(lamps - 1, columns_for(lamps)), 100)
+    top_of(lamps - 1, columns_for(lamps)).wrapping_add(100)
 }
 
 // The start of the picture.
 pub fn put_start(out: &mut [u8], at: usize, book: &[u8], lamps: u16) -> usize {
     let width = 40 + columns_for(lamps) as u64 * 60;
-    let height = std::num::wrapping_add_u64(bottom_of(lamps), 36);
+    let height = bottom_of(lamps).wrapping_add(36);
     put_form(
         out,
         at,
@@ -132,16 +132,7 @@ pub fn put_end(out: &mut [u8], at: usize, book: &[u8], lamps: u16) -> usize {
 <text x=\"20\" y=\"%d\">Colour: 255 x (duty / 32767)^(1/2.2) for red, green and blue; day and night current alike.</text>
 </svg>
 ",
-        [
-            y,
-            lamps as u64,
-            std::num::wrapping_add_u64(y, 18),
-            0,
-            0,
-            0,
-            0,
-            0,
-        ],
+        [y, lamps as u64, y.wrapping_add(18), 0, 0, 0, 0, 0],
         b"",
     )
 }

@@ -30,7 +30,7 @@ fn put_command(out: &mut [u8], at: usize, book: &[u8], line: Line, given: Given)
 // The start of an object: where the line stands, and what it says.
 fn line_told(before: u64, line: Line) -> Told {
     let kind = line.kind;
-    let number = std::num::wrapping_add_u64(before, 1);
+    let number = before.wrapping_add(1);
     match kind {
         Kind::Sensor => values_told(
             texts::JSON_SENSOR,

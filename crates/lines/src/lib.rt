@@ -175,7 +175,7 @@ fn captured_at(s: &[u8], at: usize) -> Line {
     text::put(&mut bytes, 0, text::first(rest, count));
     Line {
         kind: Kind::Captured,
-        next: std::num::wrapping_add_usize(at, count),
+        next: at.wrapping_add(count),
         step: count as u64,
         bytes,
         count,
@@ -195,7 +195,7 @@ fn any_at(s: &[u8], at: usize, last: bool) -> Line {
     if bits::and(end == n, !last) {
         return without_bytes(Kind::Open, at);
     }
-    with_next(line_of(&s[at..end]), std::num::wrapping_add_usize(end, 1))
+    with_next(line_of(&s[at..end]), end.wrapping_add(1))
 }
 
 fn is_capture(holds: Holds) -> bool {
@@ -218,8 +218,8 @@ pub fn line_at(s: &[u8], at: usize, holds: Holds) -> Line {
     let mut bytes = [0u8; 16];
     let h = text::reading::hex_at(s, at, &mut bytes);
     if text::byte_at(s, h.at) == b'\n' {
-        let size = std::num::wrapping_sub_usize(h.at, at);
-        let next = std::num::wrapping_add_usize(h.at, 1);
+        let size = h.at.wrapping_sub(at);
+        let next = h.at.wrapping_add(1);
         return with_bytes(bytes, h.count, size, next);
     }
     if is_capture(holds) {

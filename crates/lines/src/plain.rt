@@ -30,7 +30,7 @@ fn refused_told(kind: Kind, before: u64, refusal: u32) -> Told {
         Kind::Captured => values_told(texts::POSITION_REFUSED, before, refusal as u64, 0, 0),
         _ => values_told(
             texts::LINE_REFUSED,
-            std::num::wrapping_add_u64(before, 1),
+            before.wrapping_add(1),
             refusal as u64,
             0,
             0,

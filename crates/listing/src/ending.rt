@@ -25,19 +25,19 @@ pub fn no_telegrams() -> Tally {
 // The tally with a telegram more.
 pub fn counted(t: Tally, v: Verdict) -> Tally {
     let mut next = t;
-    next.telegrams = std::num::wrapping_add_u64(t.telegrams, 1);
+    next.telegrams = t.telegrams.wrapping_add(1);
     match v {
         Verdict::Sent => {
-            next.commands = std::num::wrapping_add_u64(t.commands, 1);
+            next.commands = t.commands.wrapping_add(1);
         }
         Verdict::Given => {
-            next.answers = std::num::wrapping_add_u64(t.answers, 1);
+            next.answers = t.answers.wrapping_add(1);
         }
         Verdict::Either => {
-            next.either = std::num::wrapping_add_u64(t.either, 1);
+            next.either = t.either.wrapping_add(1);
         }
         Verdict::Refused(_, _) => {
-            next.neither = std::num::wrapping_add_u64(t.neither, 1);
+            next.neither = t.neither.wrapping_add(1);
         }
     }
     next

@@ -17,7 +17,7 @@ fn deciding(number: u8, b: [u8; 16], count: usize) -> usize {
     match number {
         2 => 1,
         3 => 3,
-        5 => std::num::wrapping_add_usize(size_in(b) as usize, 4),
+        5 => (size_in(b) as usize).wrapping_add(4),
         _ => count,
     }
 }
@@ -29,7 +29,7 @@ fn expected_told(number: u8, b: [u8; 16], count: usize) -> Told {
         1 => values_told(0, n, 0, 0, 0),
         2 => values_told(1, b[0] as u64, 0, 0, 0),
         3 => values_told(2, index_in(b) as u64, 0, 0, 0),
-        _ => values_told(3, std::num::wrapping_add_u64(size_in(b), 4), n, 0, 0),
+        _ => values_told(3, size_in(b).wrapping_add(4), n, 0, 0),
     }
 }
 
@@ -89,7 +89,7 @@ expected %;                                                   |
 // The telegram with a checksum in place of its last byte.
 fn mended(p: Piece, checksum: u8) -> Piece {
     let mut bytes = p.bytes;
-    let last = std::num::wrapping_sub_usize(p.count, 1);
+    let last = p.count.wrapping_sub(1);
     if last < 16 {
         bytes[last] = checksum;
     }

@@ -23,8 +23,8 @@ fn give(head: &[u8], payload: &[u8], out: &mut [u8]) -> u32
     if out.len() < n {
         return 9;
     }
-    bytes::copy(head, out);
-    bytes::copy(payload, &mut out[h..]);
+    out[..h].copy_from_slice(head);
+    out[h..n].copy_from_slice(payload);
     n as u32 * 256
 }
 

@@ -100,7 +100,7 @@ fn do_chunk(
     let run = w.run;
     let before = w.reading;
     let after = read_chunk(text::part(buf, have, n), before);
-    let whole = std::num::wrapping_sub_u64(after.position, before.position) as usize;
+    let whole = after.position.wrapping_sub(before.position) as usize;
     let s = text::first(buf, whole);
     let mut done = script::do_lines(s, Holds::Telegrams, mem, out, style, run, book);
     done.used = script::carry(buf, whole, n);
@@ -132,7 +132,7 @@ fn turn(
         let last = closing.reading;
         return settled(out, style, run, last, book);
     }
-    let n = std::num::wrapping_add_usize(have, io::count(got, buf));
+    let n = have.wrapping_add(io::count(got, buf));
     do_chunk(buf, have, n, mem, out, style, w, book)
 }
 

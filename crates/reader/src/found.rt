@@ -96,7 +96,7 @@ fn last_in(mem: &[u8]) -> [u8; 12]
     ensures { result ≡ take 11 (drop 10 mem.now) ++ 0 ∷ [] }
 {
     let mut bytes = [0u8; 12];
-    bytes::copy(&mem[10..21], &mut bytes);
+    bytes[..11].copy_from_slice(&mem[10..21]);
     bytes
 }
 

@@ -85,8 +85,8 @@ fn write_parts(head: &[u8], rest: &[u8], mem: &mut [u8])
     ensures { mem.new ≡ front (head.now ++ rest.now) mem.old }
 {
     let n = head.len();
-    bytes::copy(head, mem);
-    bytes::copy(rest, &mut mem[n..]);
+    mem[..n].copy_from_slice(head);
+    mem[n..n + rest.len()].copy_from_slice(rest);
 }
 
 // The bytes that a state carries, or the checksums of a reading that 5 stopped, in their place.
@@ -123,5 +123,5 @@ pub(crate) fn keep_carried(r: Reading, mem: &mut [u8])
 {
     let bytes = r.bytes;
     mem[1] = r.count as u8;
-    bytes::copy(&bytes[..11], &mut mem[10..]);
+    mem[10..21].copy_from_slice(&bytes[..11]);
 }

@@ -59,7 +59,7 @@ fn give(n: Next, total: usize, reader: &mut [u8], at: &mut usize, out: &mut [u8]
         return 9;
     }
     let bytes = n.bytes;
-    bytes::copy(&bytes[..total], out);
+    out[..total].copy_from_slice(&bytes[..total]);
     move_on(n, reader, at);
     total as u32 * 256
 }

@@ -79,7 +79,7 @@ fn put_position(p: u64, reader: &mut [u8])
     ensures { reader.new ≡ (take 2 reader.old ++ position_bytes p) ++ drop 10 reader.old }
 {
     let b = position_bytes(p);
-    bytes::copy(&b, &mut reader[2..]);
+    reader[2..10].copy_from_slice(&b);
 }
 
 // Gives a telegram of the chunk, where there is room for it, else 9. Nothing was carried, and nothing is.
@@ -102,8 +102,8 @@ pub(crate) fn pass(
     }
     let from = *at;
     let end = from + total;
-    bytes::copy(&chunk[from..end], out);
-    let p = std::num::wrapping_add_u64(position_in(reader), total as u64);
+    out[..total].copy_from_slice(&chunk[from..end]);
+    let p = position_in(reader).wrapping_add(total as u64);
     put_position(p, reader);
     *at = end;
     total as u32 * 256

@@ -10,7 +10,7 @@ pub fn carry(buf: &mut [u8], from: usize, to: usize) -> usize {
     let n = to - from;
     let mut i = 0;
     while i < n {
-        move_byte(buf, std::num::wrapping_add_usize(from, i), i);
+        move_byte(buf, from.wrapping_add(i), i);
         i += 1;
     }
     n
@@ -37,7 +37,7 @@ fn carried(run: Run, left: usize) -> Run {
     next.used = left;
     let stop = run.stop;
     if bits::and(is_going(stop), 65000 < left) {
-        next.line = std::num::wrapping_add_u64(next.line, 1);
+        next.line = next.line.wrapping_add(1);
         return stopped(next, Stop::Malformed);
     }
     next
@@ -77,7 +77,7 @@ fn turn(
     if got == 0 {
         return do_last(text::first(buf, have), mem, out, style, run, book);
     }
-    let n = std::num::wrapping_add_usize(have, io::count(got, buf));
+    let n = have.wrapping_add(io::count(got, buf));
     do_chunk(buf, n, mem, out, style, run, book)
 }
 

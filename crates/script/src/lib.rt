@@ -173,7 +173,7 @@ fn do_next(
     }
     let mut done = do_line(line, mem, out, style, run, book);
     done.used = line.next;
-    done.line = std::num::wrapping_add_u64(done.line, line.step);
+    done.line = done.line.wrapping_add(line.step);
     done
 }
 

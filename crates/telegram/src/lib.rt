@@ -210,7 +210,7 @@ fn put_at(src: &[u8], dst: &mut [u8], at: usize)
     requires { at + length src.now ≤ length dst.old }
     ensures { dst.new ≡ (take at dst.old ++ src.now) ++ drop (at + length src.now) dst.old }
 {
-    bytes::copy(src, &mut dst[at..]);
+    dst[at..at + src.len()].copy_from_slice(src);
 }
 
 // Stores the checksum of the first `n` bytes behind them.

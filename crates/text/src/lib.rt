@@ -59,7 +59,7 @@ pub fn put(out: &mut [u8], at: usize, word: &[u8]) -> usize
     if room - at < n {
         return at;
     }
-    bytes::copy(word, &mut out[at..]);
+    out[at..at + n].copy_from_slice(word);
     at + n
 }
 
@@ -241,7 +241,7 @@ pub fn line_in(list: &[u8], word: &[u8]) -> usize {
         if check::same(&list[at..end], word) {
             return k;
         }
-        k = std::num::wrapping_add_usize(k, 1);
+        k = k.wrapping_add(1);
         at = end + 1;
     }
     k

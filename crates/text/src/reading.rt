@@ -73,14 +73,14 @@ fn step(s: &[u8], h: Hex, bytes: &mut [u8]) -> Hex {
     let v = pair_at(s, h.at);
     if v < 256 {
         store(bytes, h.count, v as u8);
-        let next = std::num::wrapping_add_usize(h.at, 2);
+        let next = h.at.wrapping_add(2);
         return Hex {
-            at: std::num::wrapping_add_usize(next, gap_at(s, next)),
-            count: std::num::wrapping_add_usize(h.count, 1),
+            at: next.wrapping_add(gap_at(s, next)),
+            count: h.count.wrapping_add(1),
         };
     }
     Hex {
-        at: std::num::wrapping_add_usize(h.at, gap_at(s, h.at)),
+        at: h.at.wrapping_add(gap_at(s, h.at)),
         count: h.count,
     }
 }

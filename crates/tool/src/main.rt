@@ -21,7 +21,7 @@ fn add_argument(i: usize, out: &mut [u8], line: Line) -> Line {
     let at = text::within(line.used, out);
     let n = os::arg(i, &mut out[at..]);
     let fits = os::errno() == 0;
-    let end = text::put_byte(out, std::num::wrapping_add_usize(at, n), 0);
+    let end = text::put_byte(out, at.wrapping_add(n), 0);
     Line {
         used: end,
         fits: bits::and(line.fits, bits::and(fits, end != at)),
@@ -50,7 +50,7 @@ fn first_word(line: &[u8]) -> &[u8] {
 
 fn after_word(line: &[u8]) -> &[u8] {
     let end = bytes::scan::find(line, 0, line.len(), 0);
-    text::from(line, std::num::wrapping_add_usize(end, 1))
+    text::from(line, end.wrapping_add(1))
 }
 
 // A program has no exit status: behind the word --status, which the script `osp` puts first, it is written to descriptor 3.

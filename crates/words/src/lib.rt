@@ -46,7 +46,7 @@ fn index_after(letter: u8, size: usize, index: usize, run: usize) -> usize {
     match letter {
         b';' => size,
         0 => size,
-        _ => std::num::wrapping_add_usize(index, std::num::wrapping_add_usize(run, 2)),
+        _ => index.wrapping_add(run.wrapping_add(2)),
     }
 }
 
@@ -62,7 +62,7 @@ fn put_run(
 ) -> Progress {
     let rest = text::from(form, p.index);
     let run = bytes::scan::find(rest, 0, rest.len(), b'%');
-    let letter = text::byte_at(rest, std::num::wrapping_add_usize(run, 1));
+    let letter = text::byte_at(rest, run.wrapping_add(1));
     let a = text::put(out, p.at, text::first(rest, run));
     Progress {
         at: names::put_code(out, a, book, start, letter, value, s),
@@ -88,7 +88,7 @@ pub fn put_form(
         if form.len() <= p.index {
             return p.at;
         }
-        next = std::num::wrapping_add_usize(next, 1);
+        next = next.wrapping_add(1);
         left -= 1;
     }
     p.at
