@@ -23,6 +23,7 @@ LEMMAS = [
     ("crates/command/proofs/build_command/", "laid_out"),
     ("crates/osp/proofs/given/", "laid_out"),
     ("crates/capture/proofs/Taken.antt", "left_over"),
+    ("crates/capture/proofs/States.antt", "left_by"),
     ("crates/capture/proofs/state/is_left/", "left_by"),
     ("crates/reader/proofs/", "told_in"),
 ]
