@@ -29,9 +29,9 @@ module _ (s : State) (h : s.count ≤ 11) where
   unfolding is_left
   left-dirty e = simp (le-leb _ _ h, e)
 
-  pub left_by : zeros (drop s.count s.bytes) ≡ true → (k : Standing) → s.standing ≡ k → left_by k s ≡ is_left s
+  pub left_by_lem : zeros (drop s.count s.bytes) ≡ true → (k : Standing) → s.standing ≡ k → left_by k s ≡ is_left s
   unfolding is_left
-  left_by z k e = rw (le-leb _ _ h, z, e) refl
+  left_by_lem z k e = rw (le-leb _ _ h, z, e) refl
 
 -- What a state has that some reading leaves.
 pub record Left (s : State) : Type 0 where
@@ -136,7 +136,7 @@ pub left-carrying : (c : List ℕ) (p : ℕ) → Bytes c → cutting c ≡ incom
 left-carrying c p y e =
     let r : List ℕ = replicate (12 - length c) 0 in
     let z : zeros (drop (length c) (c ++ r)) ≡ true = rw (drop-append_seam c r) (zeros-made (12 - length c)) in
-    sym (left_by (carrying c p) (incomplete-short c y e) z going refl)
+    sym (left_by_lem (carrying c p) (incomplete-short c y e) z going refl)
     ∙ ap (λ (x : List ℕ). is_incomplete (cutting x)) (carried-back c p) ∙ ap is_incomplete e
 
 pub left_ended : (p : ℕ) → is_left (resting ended p) ≡ true

@@ -1,0 +1,44 @@
+-- `chain::change::act_everyone` meets its contract: in an arm of one number the table of changes computes at it.
+-- Assumes nothing.
+use mathlib.Core.Path.{◌≡◌, ◌∙◌, refl, ap, sym}
+use mathlib.Core.List.{List}
+use Prim.Native.Nat.{ℕ}
+use lib.ListN.{length}
+use Rattle.table.specs.Table.{acknowledged, plain_number, size_right}
+use Rattle.rules.specs.declared.Defaults.{Defaults}
+use Rattle.rules.specs.declared.Lamp.{Lamp}
+use Rattle.rules.specs.Lamp.{changed_plain, acted}
+use Rattle.chain.specs.Places.{sweep}
+use Rattle.chain.specs.Helpers.{command_in}
+use borrow.Author.Rules.{rules}
+use Rattle.chain.proofs.change.act_everyone.Goals as goal
+
+-- a sweep for a number, at the key that it is
+swept_at : (mem : List ℕ) (count : ℕ) (d : Defaults) (p : List ℕ) {n k : ℕ} → n ≡ k
+    → sweep (λ (q : ℕ) (l : Lamp). acted d (command_in k p) l) 0 count mem ≡ sweep (λ (q : ℕ) (l : Lamp). acted d (command_in n p) l) 0 count mem
+swept_at mem count d p e = ap (λ (x : ℕ). sweep (λ (q : ℕ) (l : Lamp). acted d (command_in x p) l) 0 count mem) (sym e)
+
+
+pub act_lamps-requires : goal.act_lamps-requires
+unfolding changed_plain acted plain_number acknowledged
+act_lamps-requires c = (c.requires.0, sym (ap (λ (n : ℕ). size_right n (length c.args.payload.now)) c.in-79.is) ∙ c.requires.1, refl)
+
+pub returns-in-4 : goal.returns-in-4
+unfolding changed_plain acted plain_number acknowledged
+returns-in-4 c = let a = c.args in
+    c.go_lamps.ensures ∙ swept_at a.mem.now a.count a.d a.payload.now c.in-4.is
+
+pub returns-in-5 : goal.returns-in-5
+unfolding changed_plain acted plain_number acknowledged
+returns-in-5 c = let a = c.args in
+    c.go_lamps-in-5.ensures ∙ swept_at a.mem.now a.count a.d a.payload.now c.in-5.is
+
+pub returns-in-6 : goal.returns-in-6
+unfolding changed_plain acted plain_number acknowledged
+returns-in-6 c = let a = c.args in
+    c.go_lamps-in-6.ensures ∙ swept_at a.mem.now a.count a.d a.payload.now c.in-6.is
+
+pub returns-in-79 : goal.returns-in-79
+unfolding changed_plain acted plain_number acknowledged
+returns-in-79 c = let a = c.args in
+    c.act_lamps.ensures ∙ swept_at a.mem.now a.count a.d a.payload.now c.in-79.is

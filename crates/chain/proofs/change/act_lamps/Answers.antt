@@ -1,0 +1,28 @@
+-- `chain::change::act_lamps` meets its contract.
+-- Assumes nothing.
+use Prim.Native.Nat.{ℕ, ◌-◌}
+use native.Mathlib.Omega.{arith}
+use mathlib.Core.Path.{◌≡◌}
+use Rattle.rules.specs.declared.Lamp.{Lamp}
+use Rattle.chain.specs.Places.{acted_in}
+use Rattle.chain.specs.Helpers.{command_in}
+use Rattle.chain.proofs.Sweeps.{Swept, swept_none, swept-more, swept_all}
+use Rattle.chain.proofs.change.act_lamps.Goals as goal
+
+pub loop-i-init : goal.loop-i-init
+loop-i-init c = swept_none _ _ _
+
+pub act_reached-requires : goal.act_reached-requires
+act_reached-requires c = (omega arith, c.requires.1, c.requires.2)
+
+pub loop-i-smaller : goal.loop-i-smaller
+loop-i-smaller c = let l = c.loop-i in
+    swept-more _ _ _ l.i l.mem l.invariant c.loop-i-test.true c.act_reached.ensures c.act_reached.auto.0
+
+pub loop-i-preserved : goal.loop-i-preserved
+loop-i-preserved c = c.loop-i.invariant.2
+
+pub returns : goal.returns
+returns c = let l = c.loop-i in
+    let e : c.args.count ≡ l.i = omega arith in
+    swept_all _ _ _ l.i l.mem l.invariant e

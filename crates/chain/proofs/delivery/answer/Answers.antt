@@ -1,0 +1,27 @@
+-- `chain::delivery::answer` meets its contract.
+-- Assumes nothing.
+use mathlib.Core.Path.{◌∙◌, sym, ap}
+use lib.Seq.{length-take-le}
+use Rattle.telegram.specs.Telegram.{listed}
+use Rattle.chain.proofs.Exits.{answer-none, answer-built}
+use borrow.Author.Rules.{rules}
+use Rattle.chain.proofs.delivery.answer.Goals as goal
+
+pub returns-then-size-eq0 : goal.returns-then-size-eq0
+returns-then-size-eq0 c = answer-none _ _ _ c.args.payload.bytes c.if-size-eq0.true
+
+pub slice_bounds-bytes-end : goal.slice_bounds-bytes-end
+slice_bounds-bytes-end c = c.requires.3
+
+pub slice_bounds-build_telegram-end : goal.slice_bounds-build_telegram-end
+slice_bounds-build_telegram-end c = sym (length-take-le _ _ c.requires.3)
+
+pub returns : goal.returns
+returns c = let a = c.args in
+    let l = length-take-le a.payload.size a.payload.bytes c.requires.3 in
+    answer-built a.a.0 a.n a.room.now _
+    (record { address = c.requires.0; command = c.requires.1; size = ap listed l ∙ c.requires.4 })
+    c.requires.2
+    (λ e. c.if-size-eq0.false (sym l ∙ e))
+    (c.built_answer.ensures ∙ c.build_telegram-built.ensures.0)
+    c.build_telegram-built.ensures.1

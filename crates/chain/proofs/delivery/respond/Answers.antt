@@ -1,0 +1,40 @@
+-- `chain::delivery::respond` meets its contract: what is permitted is sent, the rest refused.
+-- Assumes nothing.
+use mathlib.Core.Path.{◌≡◌, ◌∙◌, ap, sym}
+use native.Mathlib.Omega.{arith}
+use Rattle.rules.specs.Chain.{permitting}
+use Rattle.chain.specs.declared.Permit.{Permit}
+use Rattle.chain.specs.Record.{decode}
+use Rattle.chain.specs.Helpers.{permit_as, sent_in}
+use Rattle.chain.proofs.Validity.{chain-in}
+use Rattle.chain.proofs.Responding.{told, told-as}
+use Rattle.chain.proofs.Inits.{respond-granted, respond-refused}
+use borrow.Author.Rules.{rules}
+use Rattle.chain.proofs.delivery.respond.Goals as goal
+use Rattle.chain.proofs.delivery.respond.Goals.{After-permit-permitted}
+
+-- what was permitted, and what was not
+permitted : {r : Permit} (c : After-permit-permitted) → let a = c.args in
+    let t = sent_in a.n a.payload.now a.cast in
+    c.permit-permitted.result ≡ r → permitting (decode a.mem.now).lamps t ≡ permit_as r t
+permitted c e =
+    let a = c.args in
+    sym (c.permit-permitted.ensures a.payload.now) ∙ ap (λ (r : Permit). permit_as r (sent_in a.n a.payload.now a.cast)) e
+
+
+pub permit-permitted-requires : goal.permit-permitted-requires
+permit-permitted-requires c = (c.requires.0, c.requires.3)
+
+pub send-requires : goal.send-requires
+send-requires c = let p = c.requires in
+    (p.0, p.1, p.2, p.3, permitted (goal.at.send-requires c).After-permit-permitted c.in-Granted.is, p.4)
+
+pub returns-in-Granted : goal.returns-in-Granted
+returns-in-Granted c = let a = c.args in
+    told-as a.mem.now a.room.now
+    (sym (respond-granted a.mem.now (λ i. omega (arith, c.type_inv.mem i)) (chain-in _ _ c.requires.0) (sent_in a.n a.payload.now a.cast) (permitted (goal.at.returns-in-Granted c).After-permit-permitted c.in-Granted.is)))
+    c.send.ensures
+
+pub returns-in-Refused : goal.returns-in-Refused
+returns-in-Refused c = let a = c.args in
+    told (respond-refused a.mem.now (λ i. omega (arith, c.type_inv.mem i)) (chain-in _ _ c.requires.0) (sent_in a.n a.payload.now a.cast) a.room.now (permitted (goal.at.returns-in-Refused c).After-permit-permitted c.in-Refused.is))

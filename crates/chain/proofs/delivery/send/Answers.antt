@@ -1,0 +1,75 @@
+-- `chain::delivery::send` meets its contract: an init by its number and cast, else by the cast.
+-- Assumes nothing.
+use mathlib.Core.Path.{◌≡◌, ◌∙◌, ap, refl, sym, subst}
+use mathlib.Core.Bool.{true}
+use Prim.Native.Nat.{◌≤◌}
+use native.Mathlib.Omega.{arith}
+use lib.Dec.{leb}
+use borrow.Author.Tests.{leb-true, lt-ltb}
+use Rattle.table.specs.declared.Cast.{Cast}
+use Rattle.table.specs.declared.Cast.TheVariants.{One, Group}
+use Rattle.table.specs.Casts.{cast_in_range}
+use Rattle.table.proofs.Both.{and_right}
+use Rattle.rules.specs.Chain.{is_init}
+use Rattle.chain.specs.declared.Reach.TheVariants.{Everyone as All, Members}
+use Rattle.chain.specs.Record.{decode}
+use Rattle.chain.specs.Helpers.{walked_in, reached_in, command_in, sent_in}
+use Rattle.chain.proofs.Responding.{told-as, reached-done}
+use Rattle.chain.proofs.Inits.{walked-plain, walked-init, permit-alike}
+use borrow.Author.Rules.{rules}
+use Rattle.chain.proofs.delivery.send.Goals as goal
+use Rattle.chain.proofs.delivery.send.Goals.{Else-is_init, Then-is_init}
+
+-- it is an init
+init : (c : Then-is_init) → is_init c.args.n ≡ true
+init c = sym c.is_init.ensures ∙ c.if-is_init.true
+
+
+-- no init: the walk by the cast
+plain : {cast : Cast} (c : Else-is_init) → let a = c.args in
+    a.cast ≡ cast → reached_in a.mem.now (command_in a.n a.payload.now) cast ≡ walked_in a.mem.now (sent_in a.n a.payload.now a.cast)
+plain c e =
+    let a = c.args in
+    ap (reached_in a.mem.now (command_in a.n a.payload.now)) (sym e)
+    ∙ sym (walked-plain a.mem.now (sent_in a.n a.payload.now a.cast) (sym c.is_init.ensures ∙ c.if-is_init.false))
+
+
+pub initialise-requires : goal.initialise-requires
+initialise-requires c = let p = c.requires in
+    let a = c.args in
+    let i = init (goal.at.initialise-requires c).Then-is_init in
+    (p.0, i, p.2, permit-alike (decode a.mem.now).lamps a.n a.payload.now a.cast i p.4, p.5)
+
+pub returns-then-is_init : goal.returns-then-is_init
+returns-then-is_init c = let a = c.args in
+    told-as a.mem.now a.room.now (sym (walked-init a.mem.now (sent_in a.n a.payload.now a.cast) (init (goal.at.returns-then-is_init c).Then-is_init))) c.initialise.ensures
+
+pub spread-requires : goal.spread-requires
+spread-requires c = (c.requires.0, c.requires.1, refl)
+
+pub unicast-requires : goal.unicast-requires
+unicast-requires c = let p = c.requires in
+    let a = c.in-One.a in
+    let r : cast_in_range (One a) ≡ true = subst (λ (x : Cast). cast_in_range x ≡ true) c.in-One.is p.3 in
+    let h : a.0 ≤ 0x3EF = leb-true a.0 0x3EF (and_right (leb 1 a.0) _ r) in
+    (p.0, p.1, p.2, omega arith, p.5)
+
+pub spread-requires-in-Group : goal.spread-requires-in-Group
+spread-requires-in-Group c = let p = c.requires in
+    let g = c.in-Group.g in
+    let r : cast_in_range (Group g) ≡ true = subst (λ (x : Cast). cast_in_range x ≡ true) c.in-Group.is p.3 in
+    let h : g ≤ 14 = leb-true g 14 r in
+    (p.0, p.1, lt-ltb g 16 (omega arith))
+
+pub returns-in-Everyone : goal.returns-in-Everyone
+returns-in-Everyone c = let a = c.args in
+    told-as a.mem.now a.room.now (plain (goal.at.returns-in-Everyone c).Else-is_init c.in-Everyone.is) (reached-done a.mem.now (command_in a.n a.payload.now) All a.room.now c.spread.ensures)
+
+pub returns-in-One : goal.returns-in-One
+returns-in-One c = let a = c.args in
+    told-as a.mem.now a.room.now (plain (goal.at.returns-in-One c).Else-is_init c.in-One.is) c.unicast.ensures
+
+pub returns-in-Group : goal.returns-in-Group
+returns-in-Group c = let a = c.args in
+    let g = c.cast-in-Group-1.given in
+    told-as a.mem.now a.room.now (plain (goal.at.returns-in-Group c).Else-is_init g.1) (reached-done a.mem.now (command_in a.n a.payload.now) (Members g.0.0) a.room.now c.spread-in-Group.ensures)

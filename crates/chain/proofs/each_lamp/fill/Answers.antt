@@ -1,0 +1,23 @@
+-- `chain::each_lamp::fill` meets its contract.
+-- Assumes nothing.
+use Prim.Native.Nat.{ℕ, ◌-◌}
+use native.Mathlib.Omega.{arith}
+use mathlib.Core.Path.{◌≡◌}
+use Rattle.rules.specs.declared.Lamp.{Lamp}
+use Rattle.chain.proofs.Sweeps.{Swept, swept_none, swept-more, swept_all}
+use Rattle.chain.proofs.each_lamp.fill.Goals as goal
+
+pub loop-i-init : goal.loop-i-init
+loop-i-init c = swept_none _ _ _
+
+pub loop-i-smaller : goal.loop-i-smaller
+loop-i-smaller c = let l = c.loop-i in
+    swept-more _ _ _ l.i l.mem l.invariant c.loop-i-test.true c.store_lamp.ensures c.store_lamp.auto.0
+
+pub loop-i-preserved : goal.loop-i-preserved
+loop-i-preserved c = c.loop-i.invariant.2
+
+pub returns : goal.returns
+returns c = let l = c.loop-i in
+    let e : c.args.count ≡ l.i = omega arith in
+    swept_all _ _ _ l.i l.mem l.invariant e

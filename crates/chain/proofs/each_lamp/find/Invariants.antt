@@ -1,0 +1,18 @@
+-- `chain::each_lamp::find` meets its contract.
+-- Assumes nothing.
+use mathlib.Core.Path.{◌≡◌, ◌∙◌, ap, sym}
+use Prim.Native.Nat.{◌≤◌, ◌-◌}
+use native.Mathlib.Omega.{arith}
+use borrow.Author.Tests.{eqb-true, eqb-false}
+use Rattle.chain.specs.Record.{lamps_in}
+use Rattle.chain.specs.Places.{place_from}
+use Rattle.chain.proofs.Places.{rest, rest_all, place_here, place-next, place_none}
+use borrow.Author.Rules.{rules}
+use Rattle.chain.proofs.each_lamp.find.Given as goal
+
+abbrev pub invariant-loop-i : goal.invariant-loop-i
+invariant-loop-i l = (l.i ≤ l.count) × (place_from 0 l.a.0 (lamps_in l.count l.mem) ≡ place_from l.i l.a.0 (rest l.i l.count l.mem))
+
+
+abbrev pub decreases-loop-i : goal.decreases-loop-i
+decreases-loop-i l = l.count - l.i

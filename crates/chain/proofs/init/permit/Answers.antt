@@ -1,0 +1,46 @@
+-- `chain::init::permit` meets its contract: an init by its cast.
+-- Assumes nothing.
+use mathlib.Core.Path.{◌≡◌, ◌∙◌, ap, sym, subst}
+use mathlib.Core.Bool.{true}
+use lib.Dec.{leb}
+use borrow.Author.Tests.{leb-true, not-true, not-false}
+use Rattle.table.specs.declared.Cast.{Cast}
+use Rattle.table.specs.declared.Cast.TheVariants.{One}
+use Rattle.table.specs.Casts.{cast_in_range}
+use Rattle.table.proofs.Both.{and_right}
+use Rattle.rules.specs.Chain.{is_init, permitting_init}
+use Rattle.chain.specs.Record.{decode}
+use Rattle.chain.specs.Helpers.{sent_in}
+use Rattle.chain.proofs.Inits.{permit-plain, permit-init}
+use borrow.Author.Rules.{rules}
+use Rattle.chain.proofs.init.permit.Goals as goal
+use Rattle.chain.proofs.init.permit.Goals.{Else-not-is_init}
+
+-- it is an init
+init : (c : Else-not-is_init) → is_init c.args.n ≡ true
+init c = sym c.is_init.ensures ∙ not-false _ c.if-not-is_init.false
+
+
+pub permit_all-requires : goal.permit_all-requires
+permit_all-requires c = let a = c.args in
+    permit-plain (decode a.mem.now).lamps a.n p a.cast (sym c.is_init.ensures ∙ not-true _ c.if-not-is_init.true)
+
+pub permit_from-requires : goal.permit_from-requires
+permit_from-requires c = let a = c.in-One.first in
+    let r : cast_in_range (One a) ≡ true = subst (λ (x : Cast). cast_in_range x ≡ true) c.in-One.is c.requires.1 in
+    (c.requires.0, leb-true a.0 0x3EF (and_right (leb 1 a.0) _ r))
+
+pub returns-in-Everyone : goal.returns-in-Everyone
+returns-in-Everyone c = let a = c.args in
+    let xs = (decode a.mem.now).lamps in
+    c.permit_all.ensures (sent_in a.n p a.cast) ∙ ap (permitting_init xs (sent_in a.n p a.cast)) (sym c.in-Everyone.is) ∙ permit-init xs a.n p a.cast (init (goal.at.returns-in-Everyone c).Else-not-is_init)
+
+pub returns-in-One : goal.returns-in-One
+returns-in-One c = let a = c.args in
+    let xs = (decode a.mem.now).lamps in
+    c.permit_from.ensures (sent_in a.n p a.cast) ∙ ap (permitting_init xs (sent_in a.n p a.cast)) (sym c.in-One.is) ∙ permit-init xs a.n p a.cast (init (goal.at.returns-in-One c).Else-not-is_init)
+
+pub returns-in-Group : goal.returns-in-Group
+returns-in-Group c = let a = c.args in
+    let xs = (decode a.mem.now).lamps in
+    ap (permitting_init xs (sent_in a.n p a.cast)) (sym c.in-Group.is) ∙ permit-init xs a.n p a.cast (init (goal.at.returns-in-Group c).Else-not-is_init)

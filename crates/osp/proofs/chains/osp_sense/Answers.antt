@@ -1,0 +1,15 @@
+-- `osp::chains::osp_sense` meets its contract.
+-- Assumes nothing.
+use mathlib.Core.Path.{◌∙◌, ap}
+use Rattle.reader.specs.Interface.{packed}
+use Rattle.chain.specs.Memory.{sensed_in}
+use Rattle.osp.proofs.ChainCalls.{silent-short}
+use borrow.Author.Rules.{rules}
+use Rattle.osp.proofs.chains.osp_sense.Goals as goal
+
+pub delivered_returned-requires : goal.delivered_returned-requires
+delivered_returned-requires c = let a = c.args in
+    silent-short (sensed_in a.mem.now a.place a.temperature a.faults) c.sense.ensures.0
+
+pub returns : goal.returns
+returns c = (c.delivered_returned.ensures ∙ ap packed c.sense.ensures.0, c.sense.ensures.1)

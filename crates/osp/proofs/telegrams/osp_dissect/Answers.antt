@@ -1,0 +1,22 @@
+-- `osp::telegrams::osp_dissect` meets its contract.
+-- Assumes nothing.
+use mathlib.Core.Path.{◌∙◌, sym, ap}
+use borrow.Author.Rules.{rules}
+use Rattle.telegram.proofs.Outcomes.{after-refused, after-done, told-refused, told_same}
+use Rattle.command.specs.Commands.{dissection_as}
+use Rattle.reader.specs.Interface.{returned}
+use Rattle.osp.specs.Interface.{osp_dissect}
+use Rattle.osp.proofs.telegrams.osp_dissect.Goals as goal
+
+pub returns-in-Accepted : goal.returns-in-Accepted
+unfolding osp_dissect
+returns-in-Accepted c = told_same returned _
+    (sym (after-done _ _ (sym c.dissect-r.ensures ∙ ap dissection_as c.in-Accepted.is)))
+    c.give_command.ensures.0
+    c.give_command.ensures.1
+
+pub returns-in-Refused : goal.returns-in-Refused
+unfolding osp_dissect
+returns-in-Refused c = told-refused returned _ _
+    (after-refused _ _ (sym c.dissect-r.ensures ∙ ap dissection_as c.in-Refused.is))
+    c.refusal_returned.ensures

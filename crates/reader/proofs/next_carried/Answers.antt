@@ -1,0 +1,165 @@
+-- `reader::next_carried` meets its contract: memory holds no state, or what the reading answered decides. Assumes nothing.
+use Rattle.std.proofs.Common.{◌≡◌, ℕ, ◌≤◌, Bool, true, false, cond, not, ltb, List, [], length, get_or, sym, refl, ap, ◌∙◌, subst, arith, w8, Fits, rules, le-ltb}
+use borrow.Author.Tests.{not-true, not-false}
+use Rattle.telegram.specs.Numbers.{Reason, refused, done, refuse, fitted, leaves}
+use Rattle.telegram.specs.Telegram.{Bytes}
+use Rattle.telegram.specs.declared.Telegram.{Telegram}
+use Rattle.telegram.proofs.Outcomes.{never, refused-one}
+use Rattle.capture.specs.declared.Step.{Step}
+use Rattle.capture.specs.State.{going, standing_of, state_of}
+use Rattle.capture.specs.Calls.{Reply, telegram, more, Given, step_as, next_as}
+use Rattle.reader.specs.Layout.{position_in, state_in, holding}
+use Rattle.reader.specs.Interface.{returned, Called, answering, reader_next}
+use Rattle.reader.proofs.States.{state-long}
+use Rattle.reader.proofs.Few.{next-few, next_fits, next-waits}
+use Rattle.reader.proofs.Holding.{held-open, held-sums}
+use Rattle.reader.proofs.Exits.{next-none, next-told, called}
+use Rattle.reader.proofs.next_carried.Goals as goal
+use Rattle.reader.proofs.next_carried.Goals.{After-next_at-n, After-read_likely_open-held, After-shared_slice_known-1, After-struct_known-1, Else-not-held, In-Refused-1}
+
+-- what was read out of memory
+held : (c : After-struct_known-1) (v : Bool) → c.read_likely_open-held.result.valid ≡ v
+    → state_in c.args.reader.now ≡ refuse (not v) 11 (done (state_of c.read_likely_open-held.result.reading))
+held c v e =
+    sym c.read_likely_open-held.ensures
+    ∙ ap (λ (x : Bool). refuse (not x) 11 (done (state_of c.read_likely_open-held.result.reading))) e
+
+
+holds : (c : Else-not-held) → state_in c.args.reader.now ≡ done (state_of c.read_likely_open-held.result.reading)
+holds c = held (c-AT After-struct_known-1) true (not-false _ c.if-not-held.false)
+
+
+long : (c : After-read_likely_open-held) → length c.read_likely_open-held.result.reading.bytes ≡ 12
+long c = search rules
+
+
+byte : (c : After-read_likely_open-held) (k : ℕ) → Fits w8 (get_or c.read_likely_open-held.result.reading.bytes k 0)
+byte c k = search rules
+
+
+each : (c : After-shared_slice_known-1) → Bytes c.args.chunk.now
+each c i = omega (arith, c.type_inv.chunk i)
+
+
+abbrev start : tie.After-next-at → tie.Start
+start c = c.before.before.before.before.before.before.before.before.before
+
+
+-- what is kept fits
+few : (c : After-next_at-n) → (step_as c.next_at-n.result.step ≡ refused 11 → ⊥) → c.next_at-n.result.reading.count ≤ 11
+few c f =
+    let e = c.next_at-n.ensures in
+    subst (λ (n : ℕ). n ≤ 11) (sym (ap (λ (x : Given). x.state.count) e))
+    (next-few (state_of c.read_likely_open-held.result.reading) (long (c-AT After-struct_known-1)) (λ i. (byte (c-AT After-struct_known-1) i).fits)
+    (held-sums _ _ (holds (c-AT After-next_at-arg-1)) (λ i. omega (arith, c.type_inv.reader i)))
+    _ _ (each (c-AT After-shared_slice_known-1)) (λ z. f (ap (λ (x : Given). x.answer) e ∙ z)))
+
+
+enough : (c : After-next_at-n) → 21 ≤ length (start c).args.reader.now
+enough c = state-long _ _ (holds (c-AT After-next_at-arg-1))
+
+
+-- a reply: what is kept fits
+kept : (c : After-next_at-n) {r : Reply} → step_as c.next_at-n.result.step ≡ done r
+    → (c.next_at-n.result.reading.count ≤ 11) × (21 ≤ length (start c).args.reader.now)
+kept c e = (few c (λ z. never (sym z ∙ e)), enough c)
+
+
+-- more bytes are needed: standing and position are those in memory
+waits : (c : After-next_at-n) → step_as c.next_at-n.result.step ≡ done more
+    → let m = (start c).args.reader.now in
+    let r = c.next_at-n.result.reading in
+    (r.count ≤ 11) × (21 ≤ length m) × (standing_of r.phase ≡ going) × (get_or m 0 0 ≡ 0) × (position_in m ≡ r.position)
+waits c e =
+    let m = (start c).args.reader.now in
+    let s = state_of c.read_likely_open-held.result.reading in
+    let g = c.next_at-n.ensures in
+    let w = next-waits _ s _ (sym (ap (λ (x : Given). x.answer) g) ∙ e) in
+    let o = held-open s m (holds (c-AT After-next_at-arg-1)) w.0 in (
+      (kept c e).0,
+      enough c,
+      ap (λ (x : Given). x.state.standing) g ∙ w.1,
+      o.0,
+      o.1 ∙ sym (ap (λ (x : Given). x.state.position) g ∙ w.2),
+    )
+
+
+size : (c : After-next_at-n) (t : Telegram) → step_as c.next_at-n.result.step ≡ done (telegram t) → t.size ≤ 8
+size c t e =
+    (next_fits _ (state_of c.read_likely_open-held.result.reading) _ (λ i. (byte (c-AT After-struct_known-1) i).fits) (each (c-AT After-shared_slice_known-1))).size t
+    (sym (ap (λ (x : Given). x.answer) c.next_at-n.ensures) ∙ e)
+
+
+-- the call by what the reading answered
+told : (c : After-next_at-n) (k : Step) → c.next_at-n.result.step ≡ k
+    → let a = (start c).args in
+    answering (step_as k) (next_as c.next_at-n.result) (length a.out.now) a.reader.now a.at.now
+    ≡ reader_next a.reader.now a.chunk.now a.at.now (length a.out.now)
+told c k e =
+    let a = (start c).args in
+    ap (λ (x : Step). answering (step_as x) (next_as c.next_at-n.result) (length a.out.now) a.reader.now a.at.now) (sym e)
+    ∙ next-told _ _ _ _ _ (next_as c.next_at-n.result) (holds (c-AT After-next_at-arg-1)) c.next_at-n.ensures
+
+
+-- what is given and left where there is no telegram
+abbrev quiet : Given → ℕ → List ℕ → ℕ → Called
+quiet g room mem at =
+    record {
+      outcome = fitted room [];
+      memory = cond (ltb room 0) mem (holding g.state mem);
+      at = cond (ltb room 0) at g.at;
+    }
+
+
+-- no bytes fit every room
+fits : (room : ℕ) → ltb room 0 ≡ false
+fits room = le-ltb room 0 (omega arith)
+
+
+-- such a reply: state and index move, and nothing is written
+silent : (c : After-next_at-n) (k : Step) (m : List ℕ) (i : ℕ) → c.next_at-n.result.step ≡ k
+    → let a = (start c).args in
+    let o = a.out.now in
+    let y = reader_next a.reader.now a.chunk.now a.at.now (length o) in
+    answering (step_as k) (next_as c.next_at-n.result) (length o) a.reader.now a.at.now ≡ quiet (next_as c.next_at-n.result) (length o) a.reader.now a.at.now
+    → m ≡ holding (state_of c.next_at-n.result.reading) a.reader.now → i ≡ c.next_at-n.result.at
+    → (0 ≡ returned y.outcome) × ((m ≡ y.memory) × ((i ≡ y.at) × (o ≡ leaves y.outcome o)))
+silent c k m i e q b d =
+    let a = (start c).args in
+    let o = a.out.now in
+    let z = fits (length o) in
+    called (sym q ∙ told c k e) o (simp z) (b ∙ sym (simp z)) (d ∙ sym (simp z)) (simp z)
+
+
+pub returns-then-not-held : goal.returns-then-not-held
+returns-then-not-held c = let a = c.args in
+    called (next-none _ a.chunk.now a.at.now (length a.out.now) (held (goal.at.returns-then-not-held c).After-struct_known-1 false (not-true _ c.if-not-held.true))) a.out.now refl refl refl refl
+
+pub overflow_add-t : goal.overflow_add-t
+overflow_add-t c = record { fits = omega (arith, size (goal.at.overflow_add-t c).After-next_at-n _ (ap step_as c.in-Telegram.is)) }
+
+pub give-requires : goal.give-requires
+give-requires c = let e = ap step_as c.in-Telegram.is in
+    ((kept (goal.at.give-requires c).After-next_at-n e).0, (kept (goal.at.give-requires c).After-next_at-n e).1, omega (arith, size (goal.at.give-requires c).After-next_at-n _ e))
+
+pub wait-requires : goal.wait-requires
+wait-requires c = waits (goal.at.wait-requires c).After-next_at-n (ap step_as c.in-More.is)
+
+pub move_on-requires : goal.move_on-requires
+move_on-requires c = kept (goal.at.move_on-requires c).After-next_at-n (ap step_as c.in-Ended.is)
+
+pub refuse_kept-requires : goal.refuse_kept-requires
+refuse_kept-requires c = ((λ n. few (goal.at.refuse_kept-requires c).In-Refused-1 (λ z. n (ap (λ (x : Reason). x.number) (refused-one (sym (ap step_as c.in-Refused.is) ∙ z))))), enough (goal.at.refuse_kept-requires c).In-Refused-1)
+
+pub returns-in-Telegram : goal.returns-in-Telegram
+returns-in-Telegram c = let w = c.give.ensures in
+    called (told (goal.at.returns-in-Telegram c).After-next_at-n _ c.in-Telegram.is) (start (goal.at.returns-in-Telegram c).After-next_at-n).args.out.now w.0 w.1.1.0 w.1.1.1 w.1.0
+
+pub returns-in-More : goal.returns-in-More
+returns-in-More c = silent (goal.at.returns-in-More c).After-next_at-n _ _ _ c.in-More.is refl c.wait.ensures.0 c.wait.ensures.1
+
+pub returns-in-Ended : goal.returns-in-Ended
+returns-in-Ended c = silent (goal.at.returns-in-Ended c).After-next_at-n _ _ _ c.in-Ended.is refl c.move_on.ensures.0 c.move_on.ensures.1
+
+pub returns-in-Refused : goal.returns-in-Refused
+returns-in-Refused c = called (told (goal.at.returns-in-Refused c).In-Refused-1 _ c.in-Refused.is) (start (goal.at.returns-in-Refused c).In-Refused-1).args.out.now c.refuse_kept.ensures.0 c.refuse_kept.ensures.1 refl refl

@@ -1,0 +1,45 @@
+-- `telegram::build_telegram` meets its contract: at each return the tests that led there pick the line of `building`.
+-- Assumes nothing.
+use mathlib.Core.Path.{◌∙◌, refl, sym, ap}
+use native.Mathlib.Omega.{arith}
+use borrow.Author.Rules.{rules}
+use borrow.Author.Tests.{not-true, not-false}
+use lib.ListN.{length}
+use Rattle.telegram.specs.Numbers.{counted, done}
+use Rattle.telegram.proofs.Outcomes.{told-refused, told-done}
+use Rattle.telegram.proofs.Building.{Sendable, listed_le, telegram-length, build-address, build-command, build-length, build-room, build-done}
+use Rattle.telegram.proofs.build_telegram.Goals as goal
+use Rattle.telegram.proofs.build_telegram.Goals.{Else-not-listed_length}
+
+-- past the first three tests the fields can be sent
+sendable : (c : Else-not-listed_length) → let a = c.args in
+    Sendable a.address.0 a.command a.payload.now
+sendable c =
+    record {
+      address = c.if-a-gt1023.false;
+      command = c.if-command-gt127.false;
+      size = sym c.listed_length.ensures ∙ not-false _ c.if-not-listed_length.false;
+    }
+
+
+pub returns-then-a-gt1023 : goal.returns-then-a-gt1023
+returns-then-a-gt1023 c = told-refused counted _ _ (build-address _ _ _ _ c.if-a-gt1023.true) refl
+
+pub returns-then-command-gt127 : goal.returns-then-command-gt127
+returns-then-command-gt127 c = told-refused counted _ _ (build-command _ _ _ _ c.if-a-gt1023.false c.if-command-gt127.true) refl
+
+pub returns-then-not-listed_length : goal.returns-then-not-listed_length
+returns-then-not-listed_length c = told-refused counted _ _
+    (build-length _ _ _ _ c.if-a-gt1023.false c.if-command-gt127.false
+    (sym c.listed_length.ensures ∙ not-true _ c.if-not-listed_length.true))
+    refl
+
+pub returns-then-out-total : goal.returns-then-out-total
+returns-then-out-total c = told-refused counted _ _ (build-room _ _ _ _ (sendable (goal.at.returns-then-out-total c).Else-not-listed_length) c.if-out-total.true) refl
+
+pub write_telegram-requires : goal.write_telegram-requires
+write_telegram-requires c = let v = sendable (goal.at.write_telegram-requires c).Else-not-listed_length in
+    omega (arith, v.address, v.command, listed_le (length c.args.payload.now) v.size)
+
+pub returns : goal.returns
+returns c = told-done counted _ _ (build-done _ _ _ _ (sendable (goal.at.returns c).Else-not-listed_length) c.if-out-total.false) (ap done (sym (telegram-length _ _ _))) c.write_telegram.ensures
