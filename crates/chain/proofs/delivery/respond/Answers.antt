@@ -21,7 +21,6 @@ permitted c e =
     let a = c.args in
     sym (c.permit-permitted.ensures a.payload.now) ∙ ap (λ (r : Permit). permit_as r (sent_in a.n a.payload.now a.cast)) e
 
-
 pub permit-permitted-requires : goal.permit-permitted-requires
 permit-permitted-requires c = (c.requires.0, c.requires.3)
 
@@ -32,9 +31,9 @@ send-requires c = let p = c.requires in
 pub returns-in-Granted : goal.returns-in-Granted
 returns-in-Granted c = let a = c.args in
     told-as a.mem.now a.room.now
-    (sym (respond-granted a.mem.now (λ i. omega (arith, c.type_inv.mem i)) (chain-in _ _ c.requires.0) (sent_in a.n a.payload.now a.cast) (permitted (goal.at.returns-in-Granted c).After-permit-permitted c.in-Granted.is)))
+    (sym (respond-granted a.mem.now (search rules) (chain-in _ _ c.requires.0) (sent_in a.n a.payload.now a.cast) (permitted (goal.at.returns-in-Granted c).After-permit-permitted c.in-Granted.is)))
     c.send.ensures
 
 pub returns-in-Refused : goal.returns-in-Refused
 returns-in-Refused c = let a = c.args in
-    told (respond-refused a.mem.now (λ i. omega (arith, c.type_inv.mem i)) (chain-in _ _ c.requires.0) (sent_in a.n a.payload.now a.cast) a.room.now (permitted (goal.at.returns-in-Refused c).After-permit-permitted c.in-Refused.is))
+    told (respond-refused a.mem.now (search rules) (chain-in _ _ c.requires.0) (sent_in a.n a.payload.now a.cast) a.room.now (permitted (goal.at.returns-in-Refused c).After-permit-permitted c.in-Refused.is))

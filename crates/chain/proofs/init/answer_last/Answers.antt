@@ -22,14 +22,14 @@ bytes : (c : After-report_bytes)
 bytes c =
     handed _ _ (c.report_bytes.ensures ∙ ap (λ (l : Lamp). padded (report l)) c.load_lamp-l.ensures)
 
-
 pub answer-requires : goal.answer-requires
 answer-requires c = let p = c.requires in
     (p.2, p.3, p.4, (bytes (goal.at.answer-requires c).After-report_bytes).within, ap listed (bytes (goal.at.answer-requires c).After-report_bytes).size)
 
 pub returns : goal.returns
 returns c = let s = c.args in
-    let e = (bytes (goal.at.returns c).After-report_bytes).payload in (
-      c.answer.ensures.0 ∙ ap (λ (p : List ℕ). counted (done (answer_from s.a.0 s.n p))) e,
-      c.answer.ensures.1 ∙ ap (λ (p : List ℕ). front (answer_from s.a.0 s.n p) s.room.now) e,
-    )
+    let e = (bytes (goal.at.returns c).After-report_bytes).payload in
+    record {
+      answer = c.answer.ensures.answer ∙ ap (λ (p : List ℕ). counted (done (answer_from s.a.0 s.n p))) e;
+      room = c.answer.ensures.room ∙ ap (λ (p : List ℕ). front (answer_from s.a.0 s.n p) s.room.now) e;
+    }

@@ -3,6 +3,7 @@
 use mathlib.Core.Bool.{true, false}
 use native.Mathlib.Omega.{arith}
 use Rattle.chain.specs.Record.{decode}
+use borrow.Author.Rules.{rules}
 use Rattle.chain.proofs.Validity.{Valid, chain-in}
 use Rattle.chain.proofs.Inits.{permit-tested}
 use Rattle.chain.proofs.init.permit_all.Goals as goal
@@ -13,7 +14,6 @@ valid : (c : Start) → let mem = c.args.mem.now in
     Valid mem (decode mem)
 valid c = chain-in _ _ c.requires
 
-
 pub count_of-requires : goal.count_of-requires
 count_of-requires c = omega (arith, (valid (goal.at.count_of-requires c).Start).room)
 
@@ -21,7 +21,7 @@ pub any_unaddressed-requires : goal.any_unaddressed-requires
 any_unaddressed-requires c = omega (arith, (valid (goal.at.any_unaddressed-requires c).Start).room, c.count_of.ensures)
 
 pub returns-then-any_unaddressed : goal.returns-then-any_unaddressed
-returns-then-any_unaddressed c = permit-tested c.args.mem.now (λ i. omega (arith, c.type_inv.mem i)) (valid (goal.at.returns-then-any_unaddressed c).Start) c.count_of.ensures c.any_unaddressed.ensures t true c.if-any_unaddressed.true
+returns-then-any_unaddressed c = λ t. permit-tested c.args.mem.now (search rules) (valid (goal.at.returns-then-any_unaddressed c).Start) c.count_of.ensures c.any_unaddressed.ensures t true c.if-any_unaddressed.true
 
 pub returns : goal.returns
-returns c = permit-tested c.args.mem.now (λ i. omega (arith, c.type_inv.mem i)) (valid (goal.at.returns c).Start) c.count_of.ensures c.any_unaddressed.ensures t false c.if-any_unaddressed.false
+returns c = λ t. permit-tested c.args.mem.now (search rules) (valid (goal.at.returns c).Start) c.count_of.ensures c.any_unaddressed.ensures t false c.if-any_unaddressed.false
