@@ -17,8 +17,7 @@ overflow_add-a c = omega (arith, c.loop-i.invariant.1)
 
 pub loop-i-preserved : goal.loop-i-preserved
 loop-i-preserved c = let l = c.loop-i in
-    let t = c.args in
-    (
+    let t = c.args in (
       swept-more _ _ _ l.i l.mem l.invariant.0 c.loop-i-test.true
           (c.number_one.ensures ∙ ap (λ (k : ℕ). with_lamp l.mem l.i (numbered_as t.n k (lamp_at l.mem l.i))) l.invariant.1)
           c.number_one.auto.mem,
