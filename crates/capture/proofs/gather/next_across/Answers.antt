@@ -14,10 +14,8 @@ use Rattle.capture.proofs.gather.next_across.Goals.{After-placed-bytes}
 long : (c : After-placed-bytes) → length c.args.carried.bytes ≡ 12
 long c = search rules
 
-
 byte : (c : After-placed-bytes) (k : ℕ) → Fits w8 (get_or c.args.carried.bytes k 0)
 byte c k = search rules
-
 
 -- the bytes carried with m of the chunk behind them
 gathered : (b l : List ℕ) (n m : ℕ) {r : List ℕ} → length b ≡ 12 → n ≤ 12 → m ≤ length l
@@ -25,7 +23,6 @@ gathered : (b l : List ℕ) (n m : ℕ) {r : List ℕ} → length b ≡ 12 → n
 gathered b l n m h g k e =
     let q : length (take n b ++ take m l) ≡ n + m = simp (length-append, length-take) (omega arith) in
     ap (λ (x : List ℕ). take (n + m) x) e ∙ take_at (take n b ++ take m l) _ (n + m) q
-
 
 -- the bytes that the next telegram is taken from, and how many of the chunk they are
 taken : (c : After-placed-bytes)
@@ -42,11 +39,9 @@ taken c =
       simp (length-append, length-take) (omega (arith, (left _ c.requires.0).few, long c)),
     )
 
-
 -- the count of the bytes carried, and that they are unfinished
 counted : (c : After-placed-bytes) → length (carried_in (state_of c.args.carried)) ≡ c.args.carried.count
 counted c = carried-count (state_of c.args.carried) (long c) c.requires.0
-
 
 asked : (c : After-placed-bytes)
     → let a = c.args in
@@ -72,14 +67,12 @@ asked c =
       omega arith,
     )
 
-
 -- each is a byte
 each : (c : After-placed-bytes) → let a = c.args in Bytes (carried_in (state_of a.carried) ++ drop a.at a.chunk.now)
 each c =
     let a = c.args in
     bytes-append (carried_in (state_of a.carried)) (drop a.at a.chunk.now) (bytes_take a.carried.count a.carried.bytes (λ i. (byte c i).fits))
     (bytes_drop a.at a.chunk.now (λ i. omega (arith, c.type_inv.chunk i)))
-
 
 pub overflow_sub-count : goal.overflow_sub-count
 overflow_sub-count c = omega (arith, (left _ c.requires.0).few)

@@ -55,11 +55,9 @@ telegram c =
 broken-bare : (s : List ℕ) (e : Refusal) → cutting s ≡ broken (number_of e) → reason_of e ≡ bare (number_of e)
 broken-bare s e q = bare-is e (λ z. ⊎_elim (λ a. omega arith) (λ a. omega arith) (fault s (number_of e) q))
 
-
 -- the answer by what the bytes show
 by : (s : List ℕ) (m : ℕ) (st : State) (at : ℕ) (k : Cutting) → cutting s ≡ k → next_cut k s m st at ≡ next_cut (cutting s) s m st at
 by s m st at k e = ap (λ (x : Cutting). next_cut x s m st at) (sym e)
-
 
 pub slice_bounds-bytes-end : goal.slice_bounds-bytes-end
 slice_bounds-bytes-end c = omega (arith, long (goal.at.slice_bounds-bytes-end c).Start, c.requires.1)

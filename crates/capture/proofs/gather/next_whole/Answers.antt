@@ -13,7 +13,6 @@ use Rattle.capture.proofs.gather.next_whole.Goals as goal
 abbrev answer : Telegram → List ℕ → ℕ → State → Given
 answer t b at s = record { answer = done (telegram t); bytes = b; at = at; state = s }
 
-
 -- what is refused: the reader's refusal, passed on whole
 pub returns-in_default : goal.returns-in_default
 returns-in_default c = let a = c.args in

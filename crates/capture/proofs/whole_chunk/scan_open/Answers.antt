@@ -14,7 +14,6 @@ use Rattle.capture.proofs.whole_chunk.scan_open.Goals.{After-feed-s}
 told : (r : Reading) (b : ℕ) {z : State} → standing_of r.phase ≡ going → z ≡ fed (state_of r) b → Tells (given (state_of r) b) z
 told r b o e = subst (λ (x : State). Tells (given (state_of r) b) x) (sym e) (tells (state_of r) b o)
 
-
 -- a byte that stopped the reading: nothing of what is left is read
 halting : (c : After-feed-s) → let z = c.feed-s.result in Final (standing_of z.phase)
     → let s = state_of c.args.carried in
