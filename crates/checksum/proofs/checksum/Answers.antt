@@ -1,6 +1,6 @@
 -- `checksum::checksum` meets its contract. The invariant: the remainder so far, carried over the bytes left, is the checksum.
 -- Assumes nothing.
-use Prim.Native.Nat.{ℕ, ◌≤◌, ◌<◌, ◌-◌, ◌+◌}
+use Prim.Native.Nat.{ℕ, ◌≤◌, ◌<◌, ◌+◌}
 use mathlib.Core.Path.{◌≡◌, ◌∙◌, sym, refl}
 use mathlib.Core.List.{List}
 use borrow.Author.Rules.{rules}
@@ -14,11 +14,6 @@ use Rattle.checksum.proofs.checksum.Goals as goal
 -- one turn: the byte at i is taken in
 step : (r i : ℕ) (s : List ℕ) → i < length s → remainder_from (remainder_byte r (get_or s i 0)) (drop (i + 1) s) ≡ remainder_from r (drop i s)
 step r i s h = rw (add-one, drop-cons s i 0)
-
-
-add-i : tie.Need-overflow-add-i invariant-loop decreases-loop
-add-i c = search rules
-
 
 pub loop-i-init : goal.loop-i-init
 unfolding checksum_of

@@ -2,7 +2,6 @@
 -- Assumes nothing.
 use mathlib.Core.Path.{◌≡◌, ◌∙◌, sym, ap}
 use native.Mathlib.Omega.{arith}
-use borrow.Author.Rules.{rules}
 use Rattle.telegram.specs.Numbers.{done}
 use Rattle.telegram.specs.Telegram.{read_as, framing}
 use Rattle.telegram.proofs.Reading.{framed, read-framed, read-checksum, read_done}
@@ -12,7 +11,6 @@ use Rattle.telegram.proofs.read_telegram.Goals.{In-Accepted}
 -- past the `let .. else` the frame is accepted
 frame_is : (c : In-Accepted) → framing c.args.s.now ≡ done c.in-Accepted.t
 frame_is c = sym c.read_frame-frame.ensures ∙ ap read_as c.in-Accepted.is
-
 
 pub returns-in_default : goal.returns-in_default
 returns-in_default c = ap read_as c.in_default.is

@@ -16,7 +16,6 @@ use Rattle.osp.proofs.telegrams.osp_read.Goals.{In-Accepted}
 read_is : (c : In-Accepted) → reading c.args.s.now ≡ done c.in-Accepted.t
 read_is c = sym c.read_telegram-r.ensures ∙ ap read_as c.in-Accepted.is
 
-
 pub returns-in_default : goal.returns-in_default
 unfolding osp_read
 returns-in_default c = told-refused returned _ _
