@@ -21,7 +21,6 @@ laid c =
     let m = answer_message_of c.args.d.answer in
     laid_out_lem (answer_layout_of m.number) m c.answer_parts-parts.result c.answer_parts-parts.ensures
 
-
 pub size_byte-requires : goal.size_byte-requires
 size_byte-requires c = parts-short (laid (goal.at.size_byte-requires c).After-answer_parts-parts) (answer-short c.args.d.answer)
 

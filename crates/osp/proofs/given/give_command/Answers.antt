@@ -22,7 +22,6 @@ laid c =
     let m = message_of c.args.d.command in
     laid_out_lem (layout_of m.number) m c.command_parts-parts.result c.command_parts-parts.ensures
 
-
 pub size_byte-requires : goal.size_byte-requires
 size_byte-requires c = parts-short (laid (goal.at.size_byte-requires c).After-command_parts-parts) (command-short c.args.d.command)
 

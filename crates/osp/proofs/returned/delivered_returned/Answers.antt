@@ -12,7 +12,6 @@ use Rattle.osp.proofs.returned.delivered_returned.Goals.{In-Done}
 short : (c : In-Done) → c.in-Done.n < 65536
 short c = c.requires c.in-Done.n (ap delivered_as c.in-Done.is)
 
-
 pub overflow_cast-result : goal.overflow_cast-result
 overflow_cast-result c = omega (arith, short c)
 

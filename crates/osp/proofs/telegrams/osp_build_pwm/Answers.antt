@@ -22,14 +22,12 @@ message c =
     pwm-message a.modes a.red a.green a.blue c.pwm_of_mode-r.result c.pwm_of_mode-g.result c.pwm_of_mode-b.result
     c.pwm_of_mode-r.ensures c.pwm_of_mode-g.ensures c.pwm_of_mode-b.ensures
 
-
 -- past the tests what is left is the cast and the room
 directed : (c : Else-blue-gt32767) →
     let a = c.args in
     osp_build_pwm a.cast a.value a.modes a.red a.green a.blue (length a.out.now)
     ≡ building_directed (pwm_message a.modes a.red a.green a.blue) a.cast a.value (length a.out.now)
 directed c = pwm-directed _ _ _ _ _ _ _ c.if-modes-gt7.false c.if-red-gt32767.false c.if-green-gt32767.false c.if-blue-gt32767.false
-
 
 pub returns-then-modes-gt7 : goal.returns-then-modes-gt7
 unfolding building_directed

@@ -16,7 +16,6 @@ use Rattle.osp.proofs.telegrams.osp_read.Goals.{In-Accepted}
 read_is : (c : In-Accepted) → reading c.args.s.now ≡ done c.in-Accepted.t
 read_is c = sym c.read_telegram-r.ensures ∙ ap read_as c.in-Accepted.is
 
-
 pub returns-in_default : goal.returns-in_default
 unfolding osp_read
 returns-in_default c = told-refused returned _ _
@@ -26,9 +25,9 @@ returns-in_default c = told-refused returned _ _
 pub give_telegram-requires : goal.give_telegram-requires
 unfolding osp_read
 give_telegram-requires c = (
-      omega (arith, accepted-count _ _ (read_is (goal.at.give_telegram-requires c).In-Accepted)),
-      accepted-size _ _ (λ i. omega (arith, c.type_inv.s i)) (read_is (goal.at.give_telegram-requires c).In-Accepted),
-    )
+  omega (arith, accepted-count _ _ (read_is (goal.at.give_telegram-requires c).In-Accepted)),
+  accepted-size _ _ (λ i. omega (arith, c.type_inv.s i)) (read_is (goal.at.give_telegram-requires c).In-Accepted),
+)
 
 pub returns : goal.returns
 unfolding osp_read
