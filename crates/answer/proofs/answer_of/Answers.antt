@@ -26,15 +26,12 @@ use Rattle.answer.proofs.answer_of.Goals.{In_default}
 keys : List ℕ
 keys = 0x4E ∷ 0x4C ∷ 0x4A ∷ 0x48 ∷ 0x42 ∷ 0x40 ∷ 0x0C ∷ 0x07 ∷ 0x03 ∷ 0x02 ∷ []
 
-
 silent : Outcome ℕ → Bool
 silent (refused_for d) = true
 silent (done x) = eqb x 0
 
-
 spoken : {x : ℕ} → 0 < x → eqb x 0 ≡ false
 spoken {x} h = ne_eqb x 0 (λ (e : x ≡ 0). omega arith)
-
 
 -- the numbers with answers that are left for `_` are acknowledged, and their answers have two bytes
 rest : (c : In_default) → acknowledged c.args.n ≡ true
@@ -44,15 +41,12 @@ rest c =
     only-left silent answer_size_of keys acknowledged tt c.args.n (omega arith) c.in_default.rest
     (ap silent h.0 ∙ spoken h.1)
 
-
 two : (c : In_default) → length c.args.p.now ≡ 2
 two c = done-one (sym c.requires.0 ∙ acknowledged-answer c.args.n (rest c))
-
 
 -- a number of four bytes is two words
 joined : {r h l x y : ℕ} → r ≡ h * 65536 + l → h ≡ x → l ≡ y → r ≡ x * 65536 + y
 joined e f g = omega arith
-
 
 pub bounds-p-1 : goal.bounds-p-1
 unfolding answer_layout_of row_of

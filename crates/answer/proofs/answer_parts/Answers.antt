@@ -16,7 +16,6 @@ use Rattle.answer.proofs.answer_parts.Goals as goal
 laid : Answer → Parts
 laid x = answer_laid_out (answer_message_of x)
 
-
 pub returns-in-InitBidir : goal.returns-in-InitBidir
 unfolding laid answer_layout_of
 returns-in-InitBidir c = c.two_bytes.ensures ∙ ap laid (sym c.in-InitBidir.is)

@@ -14,7 +14,6 @@ use Rattle.answer.proofs.dissect_answer.Goals.{In-Accepted}
 read_is : (c : In-Accepted) → reading c.args.s.now ≡ done c.in-Accepted.t
 read_is c = sym c.read_telegram-r.ensures ∙ ap read_as c.in-Accepted.is
 
-
 pub returns-in_default : goal.returns-in_default
 returns-in_default c = dissect-answer-refused _ (refusal_is _ _ c.read_telegram-r.ensures c.in_default.is c.refusal_of.ensures)
 

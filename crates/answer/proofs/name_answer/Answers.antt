@@ -20,7 +20,6 @@ use Rattle.answer.proofs.name_answer.Goals.{In-Known}
 row_is : (c : In-Known) → row_of c.args.t.command ≡ done c.in-Known.row
 row_is c = sym c.row_of-entry.ensures ∙ ap entry_as c.in-Known.is
 
-
 pub returns-in_default : goal.returns-in_default
 returns-in_default c = answer-unknown _ _ (sym c.row_of-entry.ensures ∙ ap entry_as c.in_default.is)
 

@@ -12,15 +12,12 @@ use Rattle.capture.proofs.end_run.Goals.{Else-not-is_left}
 good : (c : Else-not-is_left) → is_left (state_of c.args.carried) ≡ true
 good c = sym c.is_left.ensures ∙ not-false _ c.if-not-is_left.false
 
-
 abbrev told : Outcome Reply → State → Closed
 told o s = record { answer = o; state = s }
-
 
 -- the answer that a reading repeats
 again : (s : State) (k : Standing) → s.standing ≡ k → (o : Outcome Reply) → o ≡ answer_of k → told o s ≡ told (answer_of s.standing) s
 again s k e o q = ap (λ (x : Outcome Reply). told x s) (q ∙ sym (ap answer_of e))
-
 
 pub returns-then-not-is_left : goal.returns-then-not-is_left
 returns-then-not-is_left c = end-not _ (sym c.is_left.ensures ∙ not-true _ c.if-not-is_left.true)

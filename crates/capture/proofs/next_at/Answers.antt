@@ -10,7 +10,6 @@ use Rattle.capture.proofs.next_at.Goals.{Else-not-is_left}
 good : (c : Else-not-is_left) → is_left (state_of c.args.carried) ≡ true
 good c = sym c.is_left.ensures ∙ not-false _ c.if-not-is_left.false
 
-
 pub returns-then-not-is_left : goal.returns-then-not-is_left
 returns-then-not-is_left c = c.bare.ensures ∙ next-not _ _ _ (sym c.is_left.ensures ∙ not-true _ c.if-not-is_left.true)
 

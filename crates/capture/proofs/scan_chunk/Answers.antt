@@ -13,21 +13,17 @@ use Rattle.capture.proofs.scan_chunk.Goals.{Else-not-is_left}
 good : (c : Else-not-is_left) → is_left (state_of c.args.carried) ≡ true
 good c = sym c.is_left.ensures ∙ not-false _ c.if-not-is_left.false
 
-
 abbrev told : Outcome Reply → ℕ → ℕ → State → Scanned
 told o n p s = record { answer = o; telegrams = n; position = p; state = s }
-
 
 -- what was read, part by part
 read : (z : State) {o : Outcome Reply} {n m p : ℕ} {s : State} → o ≡ answer_of s.standing → n ≡ m → p ≡ z.position → s ≡ z
     → told o n p s ≡ scanned m z
 read z a b c d = λ i. told ((a ∙ ap (λ (x : State). answer_of x.standing) d) i) (b i) (c i) (d i)
 
-
 -- the answer that a reading repeats
 again : (s : State) (k : Standing) → s.standing ≡ k → told (answer_of k) 0 s.position s ≡ scanned 0 s
 again s k e = ap (λ (x : Standing). told (answer_of x) 0 s.position s) (sym e)
-
 
 pub returns-then-not-is_left : goal.returns-then-not-is_left
 returns-then-not-is_left c = c.still_scan.ensures ∙ scan-not _ _ (sym c.is_left.ensures ∙ not-true _ c.if-not-is_left.true)

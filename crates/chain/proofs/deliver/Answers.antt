@@ -15,7 +15,6 @@ holds : (c : Else-not-is_valid) → let mem = c.args.mem.now in
     chain_in mem ≡ done (decode mem)
 holds c = chain-yes _ c.is_valid.result c.is_valid.ensures (not-false _ c.if-not-is_valid.false)
 
-
 pub returns-then-room-lt12 : goal.returns-then-room-lt12
 returns-then-room-lt12 c = left_as _ (deliver-room _ _ _ c.if-room-lt12.true) refl refl refl
 

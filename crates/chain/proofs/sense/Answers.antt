@@ -17,11 +17,9 @@ holds : (c : Else-not-is_valid) → let mem = c.args.mem.now in
     chain_in mem ≡ done (decode mem)
 holds c = chain-yes _ c.is_valid.result c.is_valid.ensures (not-false _ c.if-not-is_valid.false)
 
-
 valid : (c : Else-not-is_valid) → let mem = c.args.mem.now in
     Valid mem (decode mem)
 valid c = chain-in _ _ (holds c)
-
 
 pub returns-then-not-is_valid : goal.returns-then-not-is_valid
 returns-then-not-is_valid c = held-refused _ _ (sense-invalid _ _ _ _ (chain-no _ c.is_valid.result c.is_valid.ensures (not-true _ c.if-not-is_valid.true)))

@@ -15,11 +15,6 @@ use Rattle.checksum.proofs.checksum.Goals as goal
 step : (r i : ℕ) (s : List ℕ) → i < length s → remainder_from (remainder_byte r (get_or s i 0)) (drop (i + 1) s) ≡ remainder_from r (drop i s)
 step r i s h = rw (add-one, drop-cons s i 0)
 
-
-add-i : tie.Need-overflow-add-i invariant-loop decreases-loop
-add-i c = search rules
-
-
 pub loop-i-init : goal.loop-i-init
 unfolding checksum_of
 loop-i-init c = (search rules, refl)

@@ -9,6 +9,5 @@ use Rattle.checksum.proofs.remainder_byte.Given as goal
 abbrev pub invariant-loop-k : goal.invariant-loop-k
 invariant-loop-k l = (l.k ≤ 8) × (shift_bits (8 - l.k) l.x ≡ remainder_byte l.r l.b)
 
-
 abbrev pub decreases-loop-k : goal.decreases-loop-k
 decreases-loop-k l = 8 - l.k

@@ -25,16 +25,13 @@ use Rattle.command.proofs.build_command.Goals.{After-command_parts-parts, After-
 laid : (c : After-command_parts-parts) → let m = message_of c.args.command in LaidOut (layout_of m.number) m c.command_parts-parts.result
 laid c = let m = message_of c.args.command in laid_out_lem (layout_of m.number) m c.command_parts-parts.result c.command_parts-parts.ensures
 
-
 -- past the first test the cast is in range
 range : (c : Else-not-cast_in_range) → cast_in_range c.args.cast ≡ true
 range c = sym c.cast_in_range.ensures ∙ not-false _ c.if-not-cast_in_range.false
 
-
 -- past the second the duties are
 duties : (c : Else-not-parts) → let m = message_of c.args.command in duties_in_range (layout_of m.number) m.fields ≡ true
 duties c = sym (laid (c-AT After-command_parts-parts)).fit ∙ not-false _ c.if-not-parts.false
-
 
 -- the number that the code has is the command's
 listing : (c : After-lists_cast)
@@ -42,7 +39,6 @@ listing : (c : After-lists_cast)
     c.lists_cast.result ≡ lists_cast (row_of (message_of a.command).number) a.cast
 listing c =
     c.lists_cast.ensures ∙ ap (λ (n : ℕ). lists_cast (row_of n) c.args.cast) (laid (c-AT After-command_parts-parts)).number
-
 
 pub returns-then-not-cast_in_range : goal.returns-then-not-cast_in_range
 returns-then-not-cast_in_range c = told-refused counted _ _ (command-range _ _ _ (sym c.cast_in_range.ensures ∙ not-true _ c.if-not-cast_in_range.true)) refl

@@ -26,17 +26,14 @@ use Rattle.command.proofs.build_pwm.Goals.{After-pwm_parts-parts, Else-not-cast_
 abbrev set_pwm : Pwm → Pwm → Pwm → Message
 set_pwm r g b = numbered 0x4F (pwm_fields r g b)
 
-
 -- the command laid out
 laid : (c : After-pwm_parts-parts) → let a = c.args in
     LaidOut pwm (set_pwm a.r a.g a.b) c.pwm_parts-parts.result
 laid c = laid_out_lem pwm _ c.pwm_parts-parts.result c.pwm_parts-parts.ensures
 
-
 -- past the first test the cast is in range
 range : (c : Else-not-cast_in_range) → cast_in_range c.args.cast ≡ true
 range c = sym c.cast_in_range.ensures ∙ not-false _ c.if-not-cast_in_range.false
-
 
 pub returns-then-not-cast_in_range : goal.returns-then-not-cast_in_range
 unfolding layout_of row_of plain_number acknowledged

@@ -16,12 +16,10 @@ use Rattle.command.proofs.compose.Goals.{Else-not-payload_fits, In-Known}
 row_is : (c : In-Known) → row_of c.args.n ≡ done c.in-Known.row
 row_is c = sym c.row_of-entry.ensures ∙ ap entry_as c.in-Known.is
 
-
 -- past the test the payload fits the row
 fits : (c : Else-not-payload_fits)
     → payload_fits c.in-Known.row (length c.args.payload.now) ≡ true
 fits c = sym c.payload_fits.ensures ∙ not-false _ c.if-not-payload_fits.false
-
 
 pub returns-in_default : goal.returns-in_default
 returns-in_default c = compose-unknown _ _ (sym c.row_of-entry.ensures ∙ ap entry_as c.in_default.is)

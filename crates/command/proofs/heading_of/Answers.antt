@@ -14,12 +14,10 @@ use Rattle.command.proofs.heading_of.Goals.{After-address-1, In-Known, In-To}
 row_is : (c : In-Known) → row_of c.args.t.command ≡ done c.in-Known.row
 row_is c = sym c.row_of-entry.ensures ∙ ap entry_as c.in-Known.is
 
-
 -- past the second the address is a destination
 to_is : (c : In-To)
     → destination c.args.t.address.0 ≡ done c.in-To.cast
 to_is c = sym c.destination_of-destination.ensures ∙ ap destination_as c.in-To.is
-
 
 pub returns-then-not-payload_fits : goal.returns-then-not-payload_fits
 returns-then-not-payload_fits c = name-size s _ _ (row_is (goal.at.returns-then-not-payload_fits c).In-Known) _ (to_is (goal.at.returns-then-not-payload_fits c).In-To)

@@ -16,6 +16,5 @@ heading-is c =
     let a = c.args in
     ap (heading_as a.s.now a.t) (sym c.in-To.is) ∙ c.heading_of-heading.ensures a.s.now
 
-
 pub command_of-command-requires : goal.command_of-command-requires
 command_of-command-requires c = headed-size _ _ _ (heading-is (goal.at.command_of-command-requires c).In-To) c.requires

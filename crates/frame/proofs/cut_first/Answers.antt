@@ -14,7 +14,6 @@ use Rattle.frame.proofs.cut_first.Goals.{After-size_of-size}
 sized : (c : After-size_of-size) → c.size_of-size.result ≡ size_of (index_in c.args.s.now)
 sized c = c.size_of-size.ensures.0 ∙ ap size_of c.index_in-index.ensures
 
-
 pub returns-then-n-lt1 : goal.returns-then-n-lt1
 returns-then-n-lt1 c = cut-none _ c.if-n-lt1.true
 

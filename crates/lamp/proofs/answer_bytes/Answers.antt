@@ -15,4 +15,3 @@ answered-by : {b : Bool} (d : Defaults) (m : Message) (l : Lamp) → obeys m.num
     → padded (cond b (told d m l) []) ≡ padded (answered d m l)
 unfolding answered
 answered-by d m l e = ap (λ (x : Bool). padded (cond x (told d m l) [])) (sym e)
-

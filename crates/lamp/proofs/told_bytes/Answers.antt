@@ -19,7 +19,6 @@ use Rattle.lamp.proofs.told_bytes.Goals as goal
 told_at : {n k : ℕ} (l : Lamp) → n ≡ k → (d : Defaults) (f : List ℕ) → padded (told d (numbered k f) l) ≡ padded (told d (numbered n f) l)
 told_at l e d f = ap (λ (x : ℕ). padded (told d (numbered x f) l)) (sym e)
 
-
 -- READTEMPST, and those set commands that are acknowledged, are told temperature and status, which the latter do not change
 reported : {n : ℕ} (l : Lamp) → (n ≡ 0x2D) ⊎ ((n ≡ 0x42) ⊎ ((n ≡ 0x6B) ⊎ ((n ≡ 0x6D) ⊎ (n ≡ 0x6F)))) → (d : Defaults) (f : List ℕ)
     → padded (report l) ≡ padded (told d (numbered n f) l)
@@ -29,7 +28,6 @@ reported l (inr (inl e)) = told_at l e
 reported l (inr (inr (inl e))) = told_at l e
 reported l (inr (inr (inr (inl e)))) = told_at l e
 reported l (inr (inr (inr (inr e)))) = told_at l e
-
 
 -- any other number is told nothing (what is known of it is what the `_` knows)
 told_none : (n : ℕ) (l : Lamp)
@@ -51,4 +49,3 @@ told_none n l h d f =
       ne_eqb n 0x0C h.0.0.0.0.0.0.0.0.0.1,
       ne_eqb n 0x07 h.0.0.0.0.0.0.0.0.0.0.1,
     )
-

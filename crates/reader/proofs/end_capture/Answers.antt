@@ -22,18 +22,14 @@ held c v e =
     sym c.read_state-held.ensures
     ∙ ap (λ (x : Bool). refuse (not x) 11 (done (state_of c.read_state-held.result.reading))) e
 
-
 holds : (c : Else-not-held) → state_in c.args.reader.now ≡ done (state_of c.read_state-held.result.reading)
 holds c = held (c-AT After-struct_known-1) true (not-false _ c.if-not-held.false)
-
 
 long : (c : After-read_state-held) → length c.read_state-held.result.reading.bytes ≡ 12
 long c = search rules
 
-
 byte : (c : After-read_state-held) (k : ℕ) → Fits w8 (get_or c.read_state-held.result.reading.bytes k 0)
 byte c k = search rules
-
 
 -- what is kept fits
 few : (c : After-end_run-c) → (step_as c.end_run-c.result.step ≡ refused 11 → ⊥) → c.end_run-c.result.reading.count ≤ 11
@@ -43,10 +39,8 @@ few c f =
     (end-few (state_of c.read_state-held.result.reading) (long (c-AT After-struct_known-1)) (λ i. (byte (c-AT After-struct_known-1) i).fits)
     (held-sums _ _ (holds (c-AT After-end_run-arg-1)) (λ i. omega (arith, c.slice_known-1.given i))) (λ z. f (ap (λ (x : Closed). x.answer) e ∙ z)))
 
-
 enough : (c : After-end_run-c) → 21 ≤ length c.args.reader.now
 enough c = state-long _ _ (holds (c-AT After-end_run-arg-1))
-
 
 -- the end by what the reading answered
 by : (c : After-end_run-c) (k : Step) → c.end_run-c.result.step ≡ k
@@ -54,18 +48,15 @@ by : (c : After-end_run-c) (k : Step) → c.end_run-c.result.step ≡ k
     end_answering (step_as k) (state_of c.end_run-c.result.reading) mem ≡ end_answering (step_as c.end_run-c.result.step) (state_of c.end_run-c.result.reading) mem
 by c k e = ap (λ (x : Step). end_answering (step_as x) (state_of c.end_run-c.result.reading) c.args.reader.now) (sym e)
 
-
 told : (c : After-end_run-c) (k : Step) → c.end_run-c.result.step ≡ k
     → let mem = c.args.reader.now in
     end_answering (step_as k) (state_of c.end_run-c.result.reading) mem ≡ reader_end mem
 told c k e = by c k e ∙ end-told _ _ (closing_as c.end_run-c.result) (holds (c-AT After-end_run-arg-1)) c.end_run-c.ensures
 
-
 -- a reply: what is kept fits
 kept : (c : After-end_run-c) {r : Reply} → step_as c.end_run-c.result.step ≡ done r
     → (c.end_run-c.result.reading.count ≤ 11) × (21 ≤ length c.args.reader.now)
 kept c e = (few c (λ z. never (sym z ∙ e)), enough c)
-
 
 pub returns-then-not-held : goal.returns-then-not-held
 returns-then-not-held c = ended (end_none _ (held (goal.at.returns-then-not-held c).After-struct_known-1 false (not-true _ c.if-not-held.true))) refl refl

@@ -9,10 +9,8 @@ use Rattle.reader.proofs.give.Goals.{After-slice_known-1, Start}
 twelve : (c : Start) → length c.args.n.bytes ≡ 12
 twelve c = search rules
 
-
 long : (c : Start) → length (take c.args.total c.args.n.bytes) ≡ c.args.total
 long c = length-take-le _ _ (omega (arith, twelve c, c.requires.2))
-
 
 pub returns-then-out-total : goal.returns-then-out-total
 returns-then-out-total c = let t = take c.args.total c.args.n.bytes in

@@ -24,26 +24,20 @@ held c v e =
     sym c.read_likely_open-held.ensures
     ∙ ap (λ (x : Bool). refuse (not x) 11 (done (state_of c.read_likely_open-held.result.reading))) e
 
-
 holds : (c : Else-not-held) → state_in c.args.reader.now ≡ done (state_of c.read_likely_open-held.result.reading)
 holds c = held (c-AT After-struct_known-1) true (not-false _ c.if-not-held.false)
-
 
 long : (c : After-read_likely_open-held) → length c.read_likely_open-held.result.reading.bytes ≡ 12
 long c = search rules
 
-
 byte : (c : After-read_likely_open-held) (k : ℕ) → Fits w8 (get_or c.read_likely_open-held.result.reading.bytes k 0)
 byte c k = search rules
-
 
 each : (c : After-shared_slice_known-1) → Bytes c.args.chunk.now
 each c i = omega (arith, c.type_inv.chunk i)
 
-
 abbrev start : tie.After-next-at → tie.Start
 start c = c.before.before.before.before.before.before.before.before.before
-
 
 -- what is kept fits
 few : (c : After-next_at-n) → (step_as c.next_at-n.result.step ≡ refused 11 → ⊥) → c.next_at-n.result.reading.count ≤ 11
@@ -54,16 +48,13 @@ few c f =
     (held-sums _ _ (holds (c-AT After-next_at-arg-1)) (λ i. omega (arith, c.type_inv.reader i)))
     _ _ (each (c-AT After-shared_slice_known-1)) (λ z. f (ap (λ (x : Given). x.answer) e ∙ z)))
 
-
 enough : (c : After-next_at-n) → 21 ≤ length (start c).args.reader.now
 enough c = state-long _ _ (holds (c-AT After-next_at-arg-1))
-
 
 -- a reply: what is kept fits
 kept : (c : After-next_at-n) {r : Reply} → step_as c.next_at-n.result.step ≡ done r
     → (c.next_at-n.result.reading.count ≤ 11) × (21 ≤ length (start c).args.reader.now)
 kept c e = (few c (λ z. never (sym z ∙ e)), enough c)
-
 
 -- more bytes are needed: standing and position are those in memory
 waits : (c : After-next_at-n) → step_as c.next_at-n.result.step ≡ done more
@@ -83,12 +74,10 @@ waits c e =
       o.1 ∙ sym (ap (λ (x : Given). x.state.position) g ∙ w.2),
     )
 
-
 size : (c : After-next_at-n) (t : Telegram) → step_as c.next_at-n.result.step ≡ done (telegram t) → t.size ≤ 8
 size c t e =
     (next_fits _ (state_of c.read_likely_open-held.result.reading) _ (λ i. (byte (c-AT After-struct_known-1) i).fits) (each (c-AT After-shared_slice_known-1))).size t
     (sym (ap (λ (x : Given). x.answer) c.next_at-n.ensures) ∙ e)
-
 
 -- the call by what the reading answered
 told : (c : After-next_at-n) (k : Step) → c.next_at-n.result.step ≡ k
@@ -100,7 +89,6 @@ told c k e =
     ap (λ (x : Step). answering (step_as x) (next_as c.next_at-n.result) (length a.out.now) a.reader.now a.at.now) (sym e)
     ∙ next-told _ _ _ _ _ (next_as c.next_at-n.result) (holds (c-AT After-next_at-arg-1)) c.next_at-n.ensures
 
-
 -- what is given and left where there is no telegram
 abbrev quiet : Given → ℕ → List ℕ → ℕ → Called
 quiet g room mem at =
@@ -110,11 +98,9 @@ quiet g room mem at =
       at = cond (ltb room 0) at g.at;
     }
 
-
 -- no bytes fit every room
 fits : (room : ℕ) → ltb room 0 ≡ false
 fits room = le-ltb room 0 (omega arith)
-
 
 -- such a reply: state and index move, and nothing is written
 silent : (c : After-next_at-n) (k : Step) (m : List ℕ) (i : ℕ) → c.next_at-n.result.step ≡ k
@@ -129,7 +115,6 @@ silent c k m i e q b d =
     let o = a.out.now in
     let z = fits (length o) in
     called (sym q ∙ told c k e) o (simp z) (b ∙ sym (simp z)) (d ∙ sym (simp z)) (simp z)
-
 
 pub returns-then-not-held : goal.returns-then-not-held
 returns-then-not-held c = let a = c.args in

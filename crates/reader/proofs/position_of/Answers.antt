@@ -15,7 +15,6 @@ held c v e =
     sym c.read_state-held.ensures
     ∙ ap (λ (x : Bool). refuse (not x) 11 (done (state_of c.read_state-held.result.reading))) e
 
-
 pub returns-then-not-held : goal.returns-then-not-held
 returns-then-not-held c = position-none _ (held (goal.at.returns-then-not-held c).After-struct_known-1 false (not-true _ c.if-not-held.true))
 

@@ -6,10 +6,8 @@ use Rattle.reader.proofs.refuse_kept.Goals as goal
 eleven : (n : ℕ) (mem kept : List ℕ) → n ≡ 11 → mem ≡ cond (eqb n 11) mem kept
 eleven n mem kept e = simp (eq-eqb _ _ e)
 
-
 own : (n : ℕ) (mem kept : List ℕ) → (n ≡ 11 → ⊥) → kept ≡ cond (eqb n 11) mem kept
 own n mem kept e = simp (ne_eqb _ _ e)
-
 
 pub returns-then-refusal_number-eq11 : goal.returns-then-refusal_number-eq11
 returns-then-refusal_number-eq11 c = let q = c.refusal_number.ensures in

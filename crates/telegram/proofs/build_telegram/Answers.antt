@@ -3,7 +3,6 @@
 use mathlib.Core.Path.{◌∙◌, refl, sym, ap}
 use native.Mathlib.Omega.{arith}
 use borrow.Author.Rules.{rules}
-use borrow.Author.Tests.{not-true, not-false}
 use lib.ListN.{length}
 use Rattle.telegram.specs.Numbers.{counted, done}
 use Rattle.telegram.proofs.Outcomes.{told-refused, told-done}
@@ -18,28 +17,37 @@ sendable c =
     record {
       address = c.if-a-gt1023.false;
       command = c.if-command-gt127.false;
-      size = sym c.listed_length.ensures ∙ not-false _ c.if-not-listed_length.false;
+      size = sym c.listed_length.ensures ∙ c.if-not-listed_length.false;
     }
 
-
 pub returns-then-a-gt1023 : goal.returns-then-a-gt1023
-returns-then-a-gt1023 c = told-refused counted _ _ (build-address _ _ _ _ c.if-a-gt1023.true) refl
+returns-then-a-gt1023 c =
+    let p = told-refused counted _ _ (build-address _ _ _ _ c.if-a-gt1023.true) refl in
+    record { result_value = p.0; out_after = p.1 }
 
 pub returns-then-command-gt127 : goal.returns-then-command-gt127
-returns-then-command-gt127 c = told-refused counted _ _ (build-command _ _ _ _ c.if-a-gt1023.false c.if-command-gt127.true) refl
+returns-then-command-gt127 c =
+    let p = told-refused counted _ _ (build-command _ _ _ _ c.if-a-gt1023.false c.if-command-gt127.true) refl in
+    record { result_value = p.0; out_after = p.1 }
 
 pub returns-then-not-listed_length : goal.returns-then-not-listed_length
-returns-then-not-listed_length c = told-refused counted _ _
+returns-then-not-listed_length c =
+    let p = told-refused counted _ _
     (build-length _ _ _ _ c.if-a-gt1023.false c.if-command-gt127.false
-    (sym c.listed_length.ensures ∙ not-true _ c.if-not-listed_length.true))
-    refl
+    (sym c.listed_length.ensures ∙ c.if-not-listed_length.true))
+    refl in
+    record { result_value = p.0; out_after = p.1 }
 
 pub returns-then-out-total : goal.returns-then-out-total
-returns-then-out-total c = told-refused counted _ _ (build-room _ _ _ _ (sendable (goal.at.returns-then-out-total c).Else-not-listed_length) c.if-out-total.true) refl
+returns-then-out-total c =
+    let p = told-refused counted _ _ (build-room _ _ _ _ (sendable (goal.at.returns-then-out-total c).Else-not-listed_length) c.if-out-total.true) refl in
+    record { result_value = p.0; out_after = p.1 }
 
 pub write_telegram-requires : goal.write_telegram-requires
 write_telegram-requires c = let v = sendable (goal.at.write_telegram-requires c).Else-not-listed_length in
     omega (arith, v.address, v.command, listed_le (length c.args.payload.now) v.size)
 
 pub returns : goal.returns
-returns c = told-done counted _ _ (build-done _ _ _ _ (sendable (goal.at.returns c).Else-not-listed_length) c.if-out-total.false) (ap done (sym (telegram-length _ _ _))) c.write_telegram.ensures
+returns c =
+    let p = told-done counted _ _ (build-done _ _ _ _ (sendable (goal.at.returns c).Else-not-listed_length) c.if-out-total.false) (ap done (sym (telegram-length _ _ _))) c.write_telegram.ensures in
+    record { result_value = p.0; out_after = p.1 }

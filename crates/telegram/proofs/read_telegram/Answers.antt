@@ -13,7 +13,6 @@ use Rattle.telegram.proofs.read_telegram.Goals.{In-Accepted}
 frame_is : (c : In-Accepted) → framing c.args.s.now ≡ done c.in-Accepted.t
 frame_is c = sym c.read_frame-frame.ensures ∙ ap read_as c.in-Accepted.is
 
-
 pub returns-in_default : goal.returns-in_default
 returns-in_default c = ap read_as c.in_default.is
     ∙ read-framed _ (sym c.read_frame-frame.ensures ∙ ap read_as c.in_default.is)

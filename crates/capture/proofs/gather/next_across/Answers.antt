@@ -14,14 +14,11 @@ use Rattle.capture.proofs.gather.next_across.Goals.{After-placed-bytes, Start}
 few : (c : Start) → c.args.carried.count ≤ 11
 few c = (left _ c.requires.0).few
 
-
 long : (c : Start) → length c.args.carried.bytes ≡ 12
 long c = search rules
 
-
 byte : (c : Start) (k : ℕ) → Fits w8 (get_or c.args.carried.bytes k 0)
 byte c k = search rules
-
 
 -- the bytes carried with m of the chunk behind them
 gathered : (b l : List ℕ) (n m : ℕ) {r : List ℕ} → length b ≡ 12 → n ≤ 12 → m ≤ length l
@@ -30,11 +27,9 @@ gathered b l n m h g k e =
     let q : length (take n b ++ take m l) ≡ n + m = simp (length-append, length-take) (omega arith) in
     ap (λ (x : List ℕ). take (n + m) x) e ∙ take_at (take n b ++ take m l) _ (n + m) q
 
-
 -- the bytes that the next telegram is taken from, and how many of the chunk they are
 abbrev start : tie.After-placed → tie.Start
 start c = c.before.before.before.before.before
-
 
 taken : (c : After-placed-bytes)
     → let a = (start c).args in
@@ -50,11 +45,9 @@ taken c =
       simp (length-append, length-take) (omega (arith, few (start c), long (start c))),
     )
 
-
 -- the count of the bytes carried, and that they are unfinished
 counted : (c : Start) → length (carried_in (state_of c.args.carried)) ≡ c.args.carried.count
 counted c = carried-count (state_of c.args.carried) (long c) c.requires.0
-
 
 asked : (c : After-placed-bytes)
     → let a = (start c).args in
@@ -80,14 +73,12 @@ asked c =
       omega arith,
     )
 
-
 -- each is a byte
 each : (c : After-placed-bytes) → let a = (start c).args in Bytes (carried_in (state_of a.carried) ++ drop a.at a.chunk.now)
 each c =
     let a = (start c).args in
     bytes-append (carried_in (state_of a.carried)) (drop a.at a.chunk.now) (bytes_take a.carried.count a.carried.bytes (λ i. (byte (start c) i).fits))
     (bytes_drop a.at a.chunk.now (λ i. omega (arith, c.type_inv.chunk i)))
-
 
 pub overflow_sub-count : goal.overflow_sub-count
 overflow_sub-count c = omega (arith, few (goal.at.overflow_sub-count c).Start)

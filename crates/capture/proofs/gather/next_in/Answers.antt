@@ -14,34 +14,27 @@ use Rattle.capture.proofs.gather.next_in.Goals.{In-Incomplete, In-Whole, Start}
 long : (c : Start) → length c.args.t1 ≡ 12
 long c = search rules
 
-
 -- the bytes that are there
 abbrev part : tie.Start → List ℕ
 part c = take c.args.n c.args.t1
 
-
 counted : (c : Start) → length (part c) ≡ c.args.n
 counted c = length-take-le _ _ (omega (arith, long c, c.requires.1))
-
 
 -- what they show, by what the code was told
 short : (c : In-Incomplete) → cutting (part (c-AT Start)) ≡ incomplete
 short c = sym c.cut_first-shown.ensures ∙ ap cut_as c.in-Incomplete.is
 
-
 full : (c : In-Whole) → cutting (part (c-AT Start)) ≡ whole c.in-Whole.k
 full c = sym c.cut_first-shown.ensures ∙ ap cut_as c.in-Whole.is
-
 
 enough : (c : In-Whole) → c.in-Whole.k ≤ c.args.n
 enough c =
     omega (arith, (complete _ _ (full c)).count, counted (c-AT Start))
 
-
 most : (c : In-Whole) → c.in-Whole.k ≤ length c.args.t1
 most c =
     omega (arith, enough c, long (c-AT Start), c.requires.1)
-
 
 -- a telegram of which the first bytes were carried
 telegram : (c : In-Whole)
@@ -59,16 +52,13 @@ telegram c =
     let i : length (take n s) ≡ n = length-take-le n s (omega (arith, counted (c-AT Start), c.requires.0)) in
     (omega arith, omega (arith, enough c, c.requires.1), omega (arith, c.requires.4, enough c))
 
-
 -- a refusal here is its number alone
 broken-bare : (s : List ℕ) (e : Refusal) → cutting s ≡ broken (number_of e) → reason_of e ≡ bare (number_of e)
 broken-bare s e q = bare-is e (λ z. ⊎_elim (λ a. omega arith) (λ a. omega arith) (fault s (number_of e) q))
 
-
 -- the answer by what the bytes show
 by : (s : List ℕ) (m : ℕ) (st : State) (at : ℕ) (k : Cutting) → cutting s ≡ k → next_cut k s m st at ≡ next_cut (cutting s) s m st at
 by s m st at k e = ap (λ (x : Cutting). next_cut x s m st at) (sym e)
-
 
 pub slice_bounds-bytes-end : goal.slice_bounds-bytes-end
 slice_bounds-bytes-end c = omega (arith, long c, c.requires.1)

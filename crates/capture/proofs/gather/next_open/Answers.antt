@@ -9,7 +9,6 @@ use Rattle.capture.proofs.gather.next_open.Goals.{Start}
 long : (c : Start) → length c.args.carried.bytes ≡ 12
 long c = search rules
 
-
 pub returns-then-chunk-at : goal.returns-then-chunk-at
 returns-then-chunk-at c = let h : length c.args.chunk.now ≤ c.args.at = c.if-chunk-at.true in
     let s = state_of c.args.carried in

@@ -13,7 +13,6 @@ use Rattle.capture.proofs.gather.next_whole.Goals as goal
 abbrev answer : Telegram → List ℕ → ℕ → State → Given
 answer t b at s = record { answer = done (telegram t); bytes = b; at = at; state = s }
 
-
 -- what is given: the telegram with zeros behind it, and the reading behind the telegram
 returns-2 : tie.Need-returns-2
 returns-2 c =
@@ -28,7 +27,6 @@ returns-2 c =
     ap₂ (λ (b : List ℕ) (x : State). answer t b (a.at + (length s - a.carried.count)) x) (m.placed.ensures ∙ padded-over s)
     (c.resting.ensures ∙ ap (λ (q : ℕ). resting going q) w.wrapping-add-u64.ensures)
     ∙ sym (ap (λ (o : Outcome Telegram). next_judged o s (length s) (state_of a.carried) a.at) e)
-
 
 -- LEFT: returns-2
 -- what is refused: the reader's refusal, passed on whole

@@ -6,6 +6,5 @@ use Rattle.capture.proofs.gather.placed.Given as goal
 abbrev pub invariant-loop-i : goal.invariant-loop-i
 invariant-loop-i l = (length l.initial.bytes ≡ 12) × (l.i ≤ length l.s) × (l.bytes ≡ paste l.initial.bytes l.at l.s l.i)
 
-
 abbrev pub decreases-loop-i : goal.decreases-loop-i
 decreases-loop-i l = length l.s - l.i

@@ -10,15 +10,12 @@ use Rattle.capture.proofs.state.is_left.Goals.{Else-not-zero_from}
 tidy : (c : Else-not-zero_from) → zeros (drop c.args.s.count c.args.s.bytes) ≡ true
 tidy c = sym c.zero_from.ensures ∙ not-false _ c.if-not-zero_from.false
 
-
 -- a reading that was stopped carries nothing and has a number from 1 to 5
 none : (n : ℕ) (x y : Bool) → n ≡ 0 → x ≡ y → x ≡ eqb n 0 && y
 none n x y h e = rw (eq-eqb _ _ h) e
 
-
 some : (n : ℕ) (y : Bool) → (n ≡ 0 → ⊥) → false ≡ eqb n 0 && y
 some n y h = rw (ne_eqb _ _ h) refl
-
 
 pub returns-then-n-gt11 : goal.returns-then-n-gt11
 returns-then-n-gt11 c = left-many _ c.if-n-gt11.true

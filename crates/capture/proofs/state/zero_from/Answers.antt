@@ -11,14 +11,11 @@ use Rattle.capture.proofs.state.zero_from.Goals.{Else-from-ge8, Start}
 long : (c : Start) → length c.args.t1 ≡ 12
 long c = search rules
 
-
 byte : (c : Start) (k : ℕ) → Fits w8 (get_or c.args.t1 k 0)
 byte c k = search rules
 
-
 each : (c : Start) → Bytes c.args.t1
 each c i = (byte c i).fits
-
 
 -- the index is one of the first eight
 limit : (c : Else-from-ge8) → c.power-limit.result ≡ 256 ^ c.args.from
@@ -26,7 +23,6 @@ limit c =
     let a = c.args in
     let e : a.from % 8 ≡ a.from = omega (arith, c.if-from-ge8.false) in
     c.power-limit.ensures.0 ∙ ap (λ (k : ℕ). 256 ^ k) e
-
 
 -- the last four bytes decide
 pub returns-then-from-ge8 : goal.returns-then-from-ge8

@@ -14,10 +14,8 @@ use Rattle.capture.proofs.whole_chunk.feed.Goals.{Start}
 long : (c : Start) → length c.args.s.bytes ≡ 12
 long c = search rules
 
-
 byte : (c : Start) (k : ℕ) → Fits w8 (get_or c.args.s.bytes k 0)
 byte c k = search rules
-
 
 pub returns : goal.returns
 returns c = let a = c.args in

@@ -17,11 +17,9 @@ Keeps chunk s₀ i₀ n₀ s i n =
     × (n + length (telegrams_in (state_of s) (drop i chunk)) ≡ n₀ + length (telegrams_in (state_of s₀) (drop i₀ chunk)))
     × (run (state_of s) (drop i chunk) ≡ run (state_of s₀) (drop i₀ chunk))
 
-
 -- the telegrams that a byte completed, by the state that it left
 told : (r : Reading) (b : ℕ) {z : State} → standing_of r.phase ≡ going → z ≡ fed (state_of r) b → Tells (given (state_of r) b) z
 told r b o e = subst (λ (x : State). Tells (given (state_of r) b) x) (sym e) (tells (state_of r) b o)
-
 
 -- a byte that stopped the reading: nothing of what is left is read
 halting : (f : tie.After-feed invariant-loop decreases-loop invariant-telegrams decreases-telegrams) → Final (standing_of f.feed.result.phase)
@@ -42,7 +40,6 @@ halting f final =
     let w = halted z (drop (l.i + 1) chunk) final in
     let q = sym w.0 ∙ sym (run-next chunk l.i (omega arith) s z e) ∙ l.invariant.6 ∙ t.invariant.6 in
     (omega (arith, a, b, w.1, l.invariant.5, t.invariant.5), (ap (λ (x : State). x.position) q, q))
-
 
 pub telegrams-init : goal.telegrams-init
 telegrams-init c = (c.requires.0, c.requires.1, omega arith, omega arith, omega arith, refl, refl)

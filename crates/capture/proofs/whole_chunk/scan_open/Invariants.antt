@@ -12,14 +12,11 @@ use Rattle.capture.proofs.whole_chunk.scan_open.Given as goal
 abbrev pub invariant-loop-i : goal.invariant-loop-i
 invariant-loop-i l = Keeps l.chunk l.initial.s l.initial.i l.initial.n l.s l.i l.n
 
-
 abbrev pub decreases-loop-i : goal.decreases-loop-i
 decreases-loop-i l = length l.chunk - l.i
 
-
 abbrev pub invariant-telegrams : goal.invariant-telegrams
 invariant-telegrams l = Keeps l.chunk l.initial.s l.initial.i l.initial.n l.s l.i l.n
-
 
 abbrev pub decreases-telegrams : goal.decreases-telegrams
 decreases-telegrams l = length l.chunk - l.i

@@ -18,7 +18,6 @@ swept_at : (mem : List ℕ) (count : ℕ) (d : Defaults) (p : List ℕ) {n k : �
     → sweep (λ (q : ℕ) (l : Lamp). acted d (command_in k p) l) 0 count mem ≡ sweep (λ (q : ℕ) (l : Lamp). acted d (command_in n p) l) 0 count mem
 swept_at mem count d p e = ap (λ (x : ℕ). sweep (λ (q : ℕ) (l : Lamp). acted d (command_in x p) l) 0 count mem) (sym e)
 
-
 pub act_lamps-requires : goal.act_lamps-requires
 unfolding changed_plain acted plain_number acknowledged
 act_lamps-requires c = (c.requires.0, sym (ap (λ (n : ℕ). size_right n (length c.args.payload.now)) c.in-79.is) ∙ c.requires.1, refl)

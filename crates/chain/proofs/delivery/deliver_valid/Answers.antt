@@ -22,11 +22,9 @@ use Rattle.chain.proofs.delivery.deliver_valid.Goals.{After-refusal_of, In-Accep
 abbrev bytes : tie.Start → List ℕ
 bytes c = c.args.telegram.now
 
-
 -- what the reader accepted ..
 read_is : (c : In-Accepted) → reading (bytes (c-AT Start)) ≡ done c.in-Accepted.t
 read_is c = sym c.read_telegram-read.ensures ∙ ap read_as c.in-Accepted.is
-
 
 -- .. and what its heading names, so the dissector accepts it
 heading-is : (c : In-To) →
@@ -38,7 +36,6 @@ heading-is c =
     let t = c.in-Accepted.t in
     ap (heading_as s t) (sym c.in-To.is) ∙ c.heading_of-heading.ensures s
 
-
 sent_is : (c : In-To) →
     let s = bytes (c-AT Start) in
     let t = c.in-Accepted.t in
@@ -47,19 +44,16 @@ sent_is c =
     let r = read_is (c-AT In-Accepted) in
     sym (headed-message _ _ _ (heading-is c) (omega (arith, accepted-count _ _ r)) refl ∙ dissect-named _ r)
 
-
 -- what the reader or the heading refuses, the dissector refuses
 unread : (c : After-refusal_of) → dissecting (bytes (c-AT Start)) ≡ refused_for (reason_of c.refusal_of.result)
 unread c =
     sym (dissect-refused _ (refusal_is _ _ c.read_telegram-read.ensures c.in_default.is c.refusal_of.ensures))
-
 
 unnamed : (c : In-Refused) → dissecting (bytes (c-AT Start)) ≡ refused_for (reason_of c.in-Refused.e)
 unnamed c =
     let s = bytes (c-AT Start) in
     let t = c.in-Accepted.t in
     sym (ap (heading_as s t) (sym c.in-Refused.is) ∙ c.heading_of-heading.ensures s ∙ dissect-named s (read_is (c-AT In-Accepted)))
-
 
 pub refuse-requires : goal.refuse-requires
 unfolding responded_in refused_in

@@ -14,7 +14,6 @@ valid : (c : Start) → let mem = c.args.mem.now in
     Valid mem (decode mem)
 valid c = chain-in _ _ c.requires
 
-
 pub mark_one-requires : goal.mark_one-requires
 unfolding decode
 mark_one-requires c = omega (arith, (valid (goal.at.mark_one-requires c).Start).room, (valid (goal.at.mark_one-requires c).Start).some)

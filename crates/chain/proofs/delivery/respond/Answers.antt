@@ -21,7 +21,6 @@ permitted c e =
     let a = c.args in
     sym (c.permit-permitted.ensures a.payload.now) ∙ ap (λ (r : Permit). permit_as r (sent_in a.n a.payload.now a.cast)) e
 
-
 pub permit-permitted-requires : goal.permit-permitted-requires
 permit-permitted-requires c = (c.requires.0, c.requires.3)
 

@@ -24,7 +24,6 @@ use Rattle.chain.proofs.delivery.send.Goals.{Else-is_init, Then-is_init}
 init : (c : Then-is_init) → is_init c.args.n ≡ true
 init c = sym c.is_init.ensures ∙ c.if-is_init.true
 
-
 -- no init: the walk by the cast
 plain : {cast : Cast} (c : Else-is_init) → let a = c.args in
     a.cast ≡ cast → reached_in a.mem.now (command_in a.n a.payload.now) cast ≡ walked_in a.mem.now (sent_in a.n a.payload.now a.cast)
@@ -32,7 +31,6 @@ plain c e =
     let a = c.args in
     ap (reached_in a.mem.now (command_in a.n a.payload.now)) (sym e)
     ∙ sym (walked-plain a.mem.now (sent_in a.n a.payload.now a.cast) (sym c.is_init.ensures ∙ c.if-is_init.false))
-
 
 pub initialise-requires : goal.initialise-requires
 initialise-requires c = let p = c.requires in

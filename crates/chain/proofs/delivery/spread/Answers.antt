@@ -21,7 +21,6 @@ valid : (c : Start) → let mem = c.args.mem.now in
     Valid mem (decode mem)
 valid c = chain-in _ _ c.requires.0
 
-
 -- what each lamp that a reach has does is the walk
 held : (c : After-defaults_of-d) (reach : Reach) →
     let a = c.args in
@@ -34,7 +33,6 @@ held c reach =
     let m = command_in a.n a.payload.now in
     ap₂ (λ (d : Defaults) (n : ℕ). sweep (λ (p : ℕ) (l : Lamp). acted_in reach d m l) 0 n a.mem.now) c.defaults_of-d.ensures c.count_of-count.ensures
     ∙ spread-held a.mem.now (λ i. omega (arith, c.type_inv.mem i)) (valid (c-AT Start)) m reach
-
 
 pub count_of-count-requires : goal.count_of-count-requires
 unfolding decode

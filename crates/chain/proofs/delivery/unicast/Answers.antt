@@ -24,25 +24,21 @@ valid : (c : Start) → let mem = c.args.mem.now in
     Valid mem (decode mem)
 valid c = chain-in _ _ c.requires.0
 
-
 -- what the search gave
 search_is : (c : After-find-found) → let a = c.args in
     c.find-found.result ≡ place_from 0 a.a.0 (lamps_in (count_of a.mem.now) a.mem.now)
 search_is c = let a = c.args in
     c.find-found.ensures ∙ ap (λ (n : ℕ). place_from 0 a.a.0 (lamps_in n a.mem.now)) c.count_of-count.ensures
 
-
 -- the place that was found
 found-is : (c : In-At) → let a = c.args in
     place_from 0 a.a.0 (lamps_in (count_of a.mem.now) a.mem.now) ≡ At c.in-At.p
 found-is c = sym (search_is (c-AT After-find-found)) ∙ c.in-At.is
 
-
 in-chain : (c : In-At) → c.in-At.p.0 < count_of c.args.mem.now
 in-chain c =
     let a = c.args in
     found_in a.mem.now (λ i. omega (arith, c.type_inv.mem i)) (valid (c-AT Start)) (command_in a.n a.payload.now) a.a _ (found-is c)
-
 
 -- the bytes of the answer
 bytes : (c : After-answer_bytes) → let a = c.args in
@@ -52,7 +48,6 @@ bytes c =
     let d = (decode a.mem.now).defaults in
     let x = command_in a.n a.payload.now in
     handed _ _ (c.answer_bytes.ensures d x.fields ∙ ap (λ (l : Lamp). padded (answered d x l)) c.load_lamp.ensures)
-
 
 pub count_of-count-requires : goal.count_of-count-requires
 unfolding decode

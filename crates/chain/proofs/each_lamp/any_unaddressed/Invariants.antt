@@ -13,6 +13,5 @@ use Rattle.chain.proofs.each_lamp.any_unaddressed.Given as goal
 abbrev pub invariant-loop-i : goal.invariant-loop-i
 invariant-loop-i l = (l.i ≤ l.count) × ((l.any || any_unaddressed (rest l.i l.count l.mem)) ≡ any_unaddressed (lamps_in l.count l.mem))
 
-
 abbrev pub decreases-loop-i : goal.decreases-loop-i
 decreases-loop-i l = l.count - l.i

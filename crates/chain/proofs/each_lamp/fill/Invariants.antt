@@ -10,6 +10,5 @@ use Rattle.chain.proofs.each_lamp.fill.Given as goal
 abbrev pub invariant-loop-i : goal.invariant-loop-i
 invariant-loop-i l = Swept (λ (p : ℕ) (x : Lamp). l.l) l.count l.initial.mem l.i l.mem
 
-
 abbrev pub decreases-loop-i : goal.decreases-loop-i
 decreases-loop-i l = l.count - l.i

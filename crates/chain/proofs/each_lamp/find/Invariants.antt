@@ -13,6 +13,5 @@ use Rattle.chain.proofs.each_lamp.find.Given as goal
 abbrev pub invariant-loop-i : goal.invariant-loop-i
 invariant-loop-i l = (l.i ≤ l.count) × (place_from 0 l.a.0 (lamps_in l.count l.mem) ≡ place_from l.i l.a.0 (rest l.i l.count l.mem))
 
-
 abbrev pub decreases-loop-i : goal.decreases-loop-i
 decreases-loop-i l = l.count - l.i

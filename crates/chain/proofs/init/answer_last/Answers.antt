@@ -22,7 +22,6 @@ bytes : (c : After-report_bytes)
 bytes c =
     handed _ _ (c.report_bytes.ensures ∙ ap (λ (l : Lamp). padded (report l)) c.load_lamp-l.ensures)
 
-
 pub answer-requires : goal.answer-requires
 answer-requires c = let p = c.requires in
     (p.2, p.3, p.4, (bytes (goal.at.answer-requires c).After-report_bytes).within, ap listed (bytes (goal.at.answer-requires c).After-report_bytes).size)

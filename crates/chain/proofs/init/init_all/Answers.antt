@@ -14,7 +14,6 @@ valid : (c : Start) → let mem = c.args.mem.now in
     Valid mem (decode mem)
 valid c = chain-in _ _ c.requires.0
 
-
 pub count_of-count-requires : goal.count_of-count-requires
 unfolding decode
 count_of-count-requires c = omega (arith, (valid (goal.at.count_of-count-requires c).Start).room)

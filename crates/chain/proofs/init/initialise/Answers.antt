@@ -22,7 +22,6 @@ permitted : {cast : Cast} (c : Start) → let a = c.args in
 permitted c e = let a = c.args in
     subst (λ (x : Cast). permitting (decode a.mem.now).lamps (init_of a.n x) ≡ done (init_of a.n x)) e c.requires.3
 
-
 pub init_all-requires : goal.init_all-requires
 unfolding decode
 init_all-requires c = (c.requires.0, c.requires.1, c.requires.2, c.requires.4)

@@ -20,7 +20,6 @@ use Rattle.chain.proofs.init.permit.Goals.{Else-not-is_init}
 init : (c : Else-not-is_init) → is_init c.args.n ≡ true
 init c = sym c.is_init.ensures ∙ not-false _ c.if-not-is_init.false
 
-
 pub permit_all-requires : goal.permit_all-requires
 permit_all-requires c = let a = c.args in
     permit-plain (decode a.mem.now).lamps a.n p a.cast (sym c.is_init.ensures ∙ not-true _ c.if-not-is_init.true)

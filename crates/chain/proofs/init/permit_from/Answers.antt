@@ -13,7 +13,6 @@ valid : (c : Start) → let mem = c.args.mem.now in
     Valid mem (decode mem)
 valid c = chain-in _ _ c.requires.0
 
-
 pub count_of-requires : goal.count_of-requires
 count_of-requires c = omega (arith, (valid (goal.at.count_of-requires c).Start).room)
 

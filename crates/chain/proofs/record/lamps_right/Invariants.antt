@@ -13,6 +13,5 @@ use Rattle.chain.proofs.record.lamps_right.Given as goal
 abbrev pub invariant-loop-i : goal.invariant-loop-i
 invariant-loop-i l = (l.i ≤ l.count) × ((l.right && lamps_right (rest l.i l.count l.mem)) ≡ lamps_right (lamps_in l.count l.mem))
 
-
 abbrev pub decreases-loop-i : goal.decreases-loop-i
 decreases-loop-i l = l.count - l.i

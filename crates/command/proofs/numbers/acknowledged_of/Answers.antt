@@ -18,7 +18,6 @@ use Rattle.command.proofs.numbers.acknowledged_of.Goals.{In_default}
 pwm : (c : In_default) → c.args.n ≡ 0x6F
 pwm c = last-acknowledged c.args.n (omega arith) c.in_default.rest c.requires.0
 
-
 pub bounds-p-0 : goal.bounds-p-0
 unfolding layout_of row_of plain_number acknowledged
 bounds-p-0 c = omega (arith, right-size 2 c.in-45.is refl c.requires.1)

@@ -20,18 +20,15 @@ use Rattle.command.proofs.numbers.command_of.Goals.{In_default}
 keys : List ℕ
 keys = 0x4F ∷ 0x4E ∷ 0x4D ∷ 0x4C ∷ 0x4B ∷ 0x4A ∷ 0x48 ∷ 0x42 ∷ 0x40 ∷ 0x0D ∷ 0x0C ∷ 0x07 ∷ 0x06 ∷ 0x05 ∷ 0x04 ∷ 0x03 ∷ 0x02 ∷ 0x01 ∷ 0x00 ∷ []
 
-
 unknown : Outcome Row → Bool
 unknown (refused_for d) = true
 unknown (done r) = false
-
 
 -- the numbers left for `_` are acknowledged
 rest : (c : In_default) → acknowledged c.args.n ≡ true
 unfolding keys unknown row_of acknowledged
 rest c =
     only-left unknown row_of keys acknowledged tt c.args.n (omega arith) c.in_default.rest (ap unknown (right-row c.args.n (length c.args.p.now) c.requires).1.0)
-
 
 pub bounds-p-0 : goal.bounds-p-0
 unfolding layout_of row_of plain_number acknowledged

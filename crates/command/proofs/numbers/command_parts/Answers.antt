@@ -12,7 +12,6 @@ use Rattle.command.proofs.numbers.command_parts.Goals as goal
 laid : Command → Parts
 laid x = laid_out (message_of x)
 
-
 pub returns-in-Reset : goal.returns-in-Reset
 unfolding laid layout_of plain_number acknowledged
 returns-in-Reset c = c.bare_parts.ensures ∙ ap laid (sym c.in-Reset.is)

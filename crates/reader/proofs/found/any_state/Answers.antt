@@ -11,17 +11,14 @@ use Rattle.reader.proofs.found.any_state.Goals.{After-struct_known-1}
 abbrev told : Bool → Standing → Outcome Standing
 told v k = refuse (not v) 11 (done k)
 
-
 -- what the bytes say of it
 said : (c : After-struct_known-1) (v : Bool) → c.standing_in-b.result.valid ≡ v
     → let mem = c.args.mem.now in
     told v (standing_of c.standing_in-b.result.phase) ≡ stands_in mem
 said c v e = sym (ap (λ (x : Bool). told x (standing_of c.standing_in-b.result.phase)) e) ∙ c.standing_in-b.ensures
 
-
 abbrev state : Standing → ℕ → ℕ → List ℕ → State
 state k n p b = record { standing = k; count = n; position = p; bytes = b }
-
 
 pub returns-then-not-b : goal.returns-then-not-b
 returns-then-not-b c = c.no_state.ensures ∙ state-by _ (omega arith) _ (said (goal.at.returns-then-not-b c).After-struct_known-1 false (not-true _ c.if-not-b.true))

@@ -7,7 +7,6 @@ use Rattle.reader.proofs.kept.keep.Goals.{After-kept_bytes-bytes}
 long : (c : After-kept_bytes-bytes) → length c.kept_bytes-bytes.result ≡ 12
 long c = search rules
 
-
 pub returns : goal.returns
 returns c = let a = c.args in
     c.write_parts.ensures

@@ -8,11 +8,9 @@ joined : (a b c : Bool) → (a && b) && c ≡ a && (b && c)
 joined true b c = refl
 joined false b c = refl
 
-
 last : (a : Bool) → a ≡ a && true
 last true = refl
 last false = refl
-
 
 pub loop-i-init : goal.loop-i-init
 loop-i-init c = (omega arith, refl)

@@ -6,6 +6,5 @@ use Rattle.reader.proofs.passing.all_zero.Given as goal
 abbrev pub invariant-loop-i : goal.invariant-loop-i
 invariant-loop-i l = (l.i ≤ length l.s) × (l.clear && zeros (drop l.i l.s) ≡ zeros l.s)
 
-
 abbrev pub decreases-loop-i : goal.decreases-loop-i
 decreases-loop-i l = length l.s - l.i

@@ -5,7 +5,6 @@ use Rattle.reader.proofs.passing.at_rest.Goals as goal
 no : {A : Type 0} → false ≡ true → A
 no e = let z : ◌≡◌ {A = ℕ} 0 1 = cc in absurd (omega arith)
 
-
 pub returns-then-reader-ne0-2 : goal.returns-then-reader-ne0-2
 returns-then-reader-ne0-2 c = no e
 

@@ -16,34 +16,28 @@ use Rattle.reader.proofs.passing.pass.Goals.{After-shared_slice_known-1, Start}
 each : (c : After-shared_slice_known-1) → Bytes c.args.chunk.now
 each c i = omega (arith, c.type_inv.chunk i)
 
-
 -- the payload has at most 8 bytes, and the telegram lies in the chunk
 small : (c : After-shared_slice_known-1) → c.args.t.size ≤ 8
 small c =
     let a = c.args in
     accepted-size _ a.t (bytes_take (4 + a.t.size) (drop a.at.now a.chunk.now) (bytes_drop a.at.now a.chunk.now (each c))) c.requires.1
 
-
 inside : (c : Start) → 4 + c.args.t.size ≤ length c.args.chunk.now - c.args.at.now
 inside c =
     let a = c.args in
     omega (arith, rest-long a.reader.now c.requires.0 a.chunk.now a.at.now a.t c.requires.1, length-drop a.at.now a.chunk.now)
 
-
 abbrev part : tie.Start → List ℕ
 part c = take (4 + c.args.t.size) (drop c.args.at.now c.args.chunk.now)
 
-
 long : (c : Start) → length (part c) ≡ 4 + c.args.t.size
 long c = length-take-le (4 + c.args.t.size) _ (rest-long c.args.reader.now c.requires.0 c.args.chunk.now c.args.at.now c.args.t c.requires.1)
-
 
 -- what the call gives and leaves
 call : (c : Start)
     → let a = c.args in
     passed a.reader.now a.chunk.now a.at.now a.t (length a.out.now) ≡ reader_next a.reader.now a.chunk.now a.at.now (length a.out.now)
 call c = rest-called c.args.reader.now c.requires.0 c.args.chunk.now c.args.at.now c.args.t c.requires.1 (length c.args.out.now)
-
 
 returns-2 : tie.Need-returns-2
 returns-2 c =
@@ -62,7 +56,6 @@ returns-2 c =
     let m = ap (λ (x : ℕ). (take 2 p.args.reader.now ++ position_bytes x) ++ drop 10 p.args.reader.now)
     (w.wrapping-add-u64.ensures ∙ ap (λ (x : ℕ). wrapped (x + (4 + p.args.t.size))) n.position_in.ensures) in
     called (call p) out r.0 (q.put-position.ensures ∙ m ∙ sym (simp (le-ltb _ _ h))) (sym (simp (le-ltb _ _ h))) r.1
-
 
 -- LEFT: returns-2
 pub overflow_add-total : goal.overflow_add-total
