@@ -1,6 +1,6 @@
 -- `checksum::checksum` meets its contract. The invariant: the remainder so far, carried over the bytes left, is the checksum.
 -- Assumes nothing.
-use Prim.Native.Nat.{ℕ, ◌≤◌, ◌<◌, ◌-◌, ◌+◌}
+use Prim.Native.Nat.{ℕ, ◌≤◌, ◌<◌, ◌+◌}
 use mathlib.Core.Path.{◌≡◌, ◌∙◌, sym, refl}
 use mathlib.Core.List.{List}
 use borrow.Author.Rules.{rules}

@@ -1,9 +1,7 @@
 -- `checksum::remainder_byte` meets its contract. The invariant: the bits left, done to x, give the remainder. Assumes nothing.
 use Prim.Native.Nat.{◌≤◌, ◌-◌}
-use mathlib.Core.Path.{◌≡◌, ◌∙◌, sym, refl}
-use native.Mathlib.Omega.{arith}
+use mathlib.Core.Path.{◌≡◌}
 use Rattle.checksum.specs.Checksum.{shift_bits, remainder_byte}
-use Rattle.checksum.proofs.Bit.{shift-step, shift-end}
 use Rattle.checksum.proofs.remainder_byte.Given as goal
 
 abbrev pub invariant-loop-k : goal.invariant-loop-k

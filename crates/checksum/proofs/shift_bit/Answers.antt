@@ -1,6 +1,5 @@
 -- `checksum::shift_bit` meets its contract. Assumes nothing.
 use native.Mathlib.Omega.{arith}
-use borrow.Author.Rules.{rules}
 use Rattle.checksum.proofs.Bit.{shift-low, shift-high}
 use Rattle.checksum.proofs.shift_bit.Goals as goal
 

@@ -2,7 +2,6 @@
 -- Assumes nothing.
 use mathlib.Core.Path.{◌∙◌, refl, sym, ap}
 use native.Mathlib.Omega.{arith}
-use borrow.Author.Rules.{rules}
 use lib.ListN.{length}
 use Rattle.telegram.specs.Numbers.{counted, done}
 use Rattle.telegram.proofs.Outcomes.{told-refused, told-done}

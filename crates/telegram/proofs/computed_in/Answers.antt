@@ -1,6 +1,5 @@
 -- `telegram::computed_in` meets its contract.
 -- Assumes nothing.
-use borrow.Author.Rules.{rules}
 use native.Mathlib.Omega.{arith}
 use lib.ListN.{length-take}
 use Rattle.telegram.proofs.computed_in.Goals as goal

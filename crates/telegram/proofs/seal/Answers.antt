@@ -1,5 +1,4 @@
 -- `telegram::seal` meets its contract. Assumes nothing.
-use borrow.Author.Rules.{rules}
 use native.Mathlib.Omega.{arith}
 use lib.ListN.{length-take}
 use Rattle.telegram.proofs.seal.Goals as goal

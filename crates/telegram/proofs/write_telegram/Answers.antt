@@ -1,5 +1,4 @@
 -- `telegram::write_telegram` meets its contract: each call makes the front longer. Assumes nothing.
-use borrow.Author.Rules.{rules}
 use native.Mathlib.Omega.{arith}
 use Rattle.telegram.proofs.Front.{written}
 use Rattle.telegram.proofs.write_telegram.Goals as goal
