@@ -1,7 +1,6 @@
 -- `slot::has_address` meets its contract.
 -- Assumes nothing.
 use Rattle.slot.specs.Slot.{lamp_of}
-use borrow.Author.Rules.{rules}
 use Rattle.slot.proofs.has_address.Goals as goal
 
 pub returns : goal.returns

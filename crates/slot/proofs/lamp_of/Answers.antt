@@ -1,7 +1,6 @@
 -- `slot::lamp_of` meets its contract.
 -- Assumes nothing.
 use Rattle.slot.specs.Slot.{lamp_of}
-use borrow.Author.Rules.{rules}
 use Rattle.slot.proofs.lamp_of.Goals as goal
 
 pub returns : goal.returns

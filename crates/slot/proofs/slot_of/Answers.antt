@@ -1,7 +1,6 @@
 -- `slot::slot_of` meets its contract.
 -- Assumes nothing.
 use Rattle.slot.specs.Slot.{slot_of}
-use borrow.Author.Rules.{rules}
 use Rattle.slot.proofs.slot_of.Goals as goal
 
 pub returns : goal.returns
