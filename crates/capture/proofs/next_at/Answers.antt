@@ -12,9 +12,6 @@ good c = sym c.is_left.ensures ∙ c.if-not-is_left.false
 pub returns-then-not-is_left : goal.returns-then-not-is_left
 returns-then-not-is_left c = c.bare.ensures ∙ next-not _ _ _ (sym c.is_left.ensures ∙ c.if-not-is_left.true)
 
-pub next_open-requires : goal.next_open-requires
-next_open-requires c = (good (goal.at.next_open-requires c).Else-not-is_left, ap standing_of c.in-Open.is)
-
 pub returns-in-Open : goal.returns-in-Open
 returns-in-Open c = c.next_open.ensures
     ∙ next-by _ _ _ (good (goal.at.returns-in-Open c).Else-not-is_left) going (ap standing_of c.in-Open.is)

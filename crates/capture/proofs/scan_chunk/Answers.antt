@@ -27,9 +27,6 @@ again s k e = ap (λ (x : Standing). told (answer_of x) 0 s.position s) (sym e)
 pub returns-then-not-is_left : goal.returns-then-not-is_left
 returns-then-not-is_left c = c.still_scan.ensures ∙ scan-not _ _ (sym c.is_left.ensures ∙ c.if-not-is_left.true)
 
-pub scan_open-t-requires : goal.scan_open-t-requires
-scan_open-t-requires c = (good (goal.at.scan_open-t-requires c).Else-not-is_left, ap standing_of c.in-Open.is)
-
 pub returns-in-Open : goal.returns-in-Open
 returns-in-Open c = let r = c.scan_open-t.ensures in
     read _ c.step_of.ensures r.telegrams_value r.position_value.0 r.position_value.1 ∙ scan-left _ _ (good (goal.at.returns-in-Open c).Else-not-is_left)

@@ -77,18 +77,8 @@ each c =
 pub overflow_sub-count : goal.overflow_sub-count
 overflow_sub-count c = omega (arith, (left _ c.requires.0).few)
 
-pub overflow_add-end : goal.overflow_add-end
-overflow_add-end c = record { fits = omega arith }
-
-pub slice_bounds-placed-end : goal.slice_bounds-placed-end
-slice_bounds-placed-end c = let h : c.args.at + c.smaller-m.result ≤ length c.args.chunk.now = omega arith in
-    search rules
-
 pub placed-bytes-requires : goal.placed-bytes-requires
 placed-bytes-requires c = simp length-take (omega (arith, (left _ c.requires.0).few))
-
-pub overflow_add-count : goal.overflow_add-count
-overflow_add-count c = record { fits = omega (arith, (left _ c.requires.0).few) }
 
 pub next_in-requires : goal.next_in-requires
 next_in-requires c = asked (goal.at.next_in-requires c).After-placed-bytes

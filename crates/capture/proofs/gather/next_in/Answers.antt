@@ -1,39 +1,33 @@
 -- `capture::gather::next_in` meets its contract: what the bytes show decides. Assumes nothing.
 use Rattle.std.proofs.Common.{◌≡◌, ℕ, ◌+◌, ◌-◌, ◌<◌, ◌≤◌, List, ◌++◌, length, take, drop, sym, ap, ◌∙◌, ⊎_elim, arith, take-append-drop, length-take-le, take-take, rules}
-use Rattle.telegram.specs.Numbers.{Reason, bare, refused_for, done, reason_of, number_of}
+use Rattle.telegram.specs.Numbers.{Reason, bare, refused_for, reason_of, number_of}
 use Rattle.telegram.specs.declared.Refusal.{Refusal}
 use Rattle.telegram.proofs.Carrying.{bare-is}
 use Rattle.telegram.specs.Telegram.{reading}
 use Rattle.frame.specs.Frame.{Cutting, incomplete, broken, whole, cut_as, cutting}
 use Rattle.frame.proofs.Cuts.{complete, whole-past, fault}
-use Rattle.capture.specs.State.{going, stopped_for, State, state_of, resting}
-use Rattle.capture.specs.Calls.{more, without, next_judged, next_cut}
+use Rattle.capture.specs.State.{stopped_for, State, state_of, resting}
+use Rattle.capture.specs.Calls.{without, next_judged, next_cut}
 use Rattle.capture.proofs.gather.next_in.Goals as goal
-use Rattle.capture.proofs.gather.next_in.Goals.{In-Incomplete, In-Whole, Start}
+use Rattle.capture.proofs.gather.next_in.Goals.{In-Whole}
 
-long : (c : Start) → length c.args.bytes ≡ 12
+long : (c : In-Whole) → length c.args.bytes ≡ 12
 long c = search rules
-
-long-whole : (c : In-Whole) → length c.args.bytes ≡ 12
-long-whole c = search rules
 
 -- the bytes that are there
 counted : (l : List ℕ) (n : ℕ) → length l ≡ 12 → n ≤ 12 → length (take n l) ≡ n
 counted l n h k = length-take-le n l (omega arith)
 
 -- what they show, by what the code was told
-short : (c : In-Incomplete) → cutting (take c.args.n c.args.bytes) ≡ incomplete
-short c = sym c.cut_first-shown.ensures ∙ ap cut_as c.in-Incomplete.is
-
 full : (c : In-Whole) → cutting (take c.args.n c.args.bytes) ≡ whole c.in-Whole.k
 full c = sym c.cut_first-shown.ensures ∙ ap cut_as c.in-Whole.is
 
 enough : (c : In-Whole) → c.in-Whole.k ≤ c.args.n
 enough c =
-    omega (arith, (complete _ _ (full c)).count, counted c.args.bytes c.args.n (long-whole c) c.requires.1)
+    omega (arith, (complete _ _ (full c)).count, counted c.args.bytes c.args.n (long c) c.requires.1)
 
 most : (c : In-Whole) → c.in-Whole.k ≤ length c.args.bytes
-most c = omega (arith, enough c, long-whole c, c.requires.1)
+most c = omega (arith, enough c, long c, c.requires.1)
 
 -- a telegram of which the first bytes were carried
 telegram : (c : In-Whole)
@@ -48,7 +42,7 @@ telegram c =
     let j : cutting (take n s ++ drop n s) ≡ whole k = rw (take-append-drop n s) (full c) in
     let u : cutting (take n s) ≡ incomplete = ap cutting (take-take n c.args.n c.args.bytes c.requires.0) ∙ c.requires.3 in
     let h = whole-past (take n s) (drop n s) k u j in
-    let i : length (take n s) ≡ n = length-take-le n s (omega (arith, counted c.args.bytes c.args.n (long-whole c) c.requires.1, c.requires.0)) in
+    let i : length (take n s) ≡ n = length-take-le n s (omega (arith, counted c.args.bytes c.args.n (long c) c.requires.1, c.requires.0)) in
     (omega arith, omega (arith, enough c, c.requires.1), omega (arith, c.requires.4, enough c))
 
 -- a refusal here is its number alone
@@ -59,12 +53,6 @@ broken-bare s e q = bare-is e (λ z. ⊎_elim (λ a. omega arith) (λ a. omega a
 by : (s : List ℕ) (m : ℕ) (st : State) (at : ℕ) (k : Cutting) → cutting s ≡ k → next_cut k s m st at ≡ next_cut (cutting s) s m st at
 by s m st at k e = ap (λ (x : Cutting). next_cut x s m st at) (sym e)
 
-pub slice_bounds-bytes-end : goal.slice_bounds-bytes-end
-slice_bounds-bytes-end c = omega (arith, long (goal.at.slice_bounds-bytes-end c).Start, c.requires.1)
-
-pub slice_bounds-cut_first-end : goal.slice_bounds-cut_first-end
-slice_bounds-cut_first-end c = sym (counted c.args.bytes c.args.n (long (goal.at.slice_bounds-cut_first-end c).Start) c.requires.1)
-
 pub slice_bounds-bytes-end-in-Whole : goal.slice_bounds-bytes-end-in-Whole
 slice_bounds-bytes-end-in-Whole c = most (goal.at.slice_bounds-bytes-end-in-Whole c).In-Whole
 
@@ -73,14 +61,6 @@ slice_bounds-next_whole-end c = sym (length-take-le _ _ (most (goal.at.slice_bou
 
 pub next_whole-requires : goal.next_whole-requires
 next_whole-requires c = telegram (goal.at.next_whole-requires c).In-Whole
-
-pub returns-in-Incomplete : goal.returns-in-Incomplete
-returns-in-Incomplete c = let a = c.args in
-    let m = a.n - a.carried.count in
-    let n = sym (counted c.args.bytes c.args.n (long (goal.at.returns-in-Incomplete c).Start) c.requires.1) in
-    let b = sym c.requires.2 in
-    (λ i. without (done more) (a.at + m) (record { standing = going; count = n i; position = a.carried.position; bytes = b i }))
-    ∙ by (take a.n a.bytes) m (state_of a.carried) a.at incomplete (short (goal.at.returns-in-Incomplete c).In-Incomplete)
 
 pub returns-in-Broken : goal.returns-in-Broken
 returns-in-Broken c = let a = c.args in
