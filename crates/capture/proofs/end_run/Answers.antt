@@ -1,7 +1,6 @@
 -- `capture::end_run` meets its contract: the state is refused, or the reading's standing decides. Assumes nothing.
-use Rattle.std.proofs.Common.{◌≡◌, true, sym, refl, ap, ◌∙◌, ap₂, rules}
+use Rattle.std.proofs.Common.{◌≡◌, true, sym, refl, ap, ◌∙◌, ap₂}
 use Rattle.telegram.specs.Numbers.{Outcome, reason_of}
-use Rattle.capture.specs.declared.Phase.{Phase}
 use Rattle.capture.specs.State.{Standing, going, ended, stopped_for, standing_of, State, state_of, resting, is_left}
 use Rattle.capture.specs.Calls.{Reply, Closed, answer_of}
 use Rattle.capture.proofs.States.{end-not, end_by}

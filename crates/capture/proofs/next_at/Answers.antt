@@ -1,5 +1,5 @@
 -- `capture::next_at` meets its contract: the state is refused, or the reading's standing decides. Assumes nothing.
-use Rattle.std.proofs.Common.{◌≡◌, true, sym, ap, ◌∙◌, rules}
+use Rattle.std.proofs.Common.{◌≡◌, true, sym, ap, ◌∙◌}
 use Rattle.telegram.specs.Numbers.{reason_of}
 use Rattle.capture.specs.State.{going, ended, stopped_for, standing_of, state_of, is_left}
 use Rattle.capture.proofs.States.{next-not, next-by}

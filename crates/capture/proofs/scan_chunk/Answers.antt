@@ -1,5 +1,5 @@
 -- `capture::scan_chunk` meets its contract: the state is refused, or the reading's standing decides. Assumes nothing.
-use Rattle.std.proofs.Common.{◌≡◌, ℕ, true, sym, ap, ◌∙◌, subst, rules}
+use Rattle.std.proofs.Common.{◌≡◌, ℕ, true, sym, ap, ◌∙◌, subst}
 use Rattle.telegram.specs.Numbers.{Outcome, reason_of}
 use Rattle.capture.specs.State.{Standing, ended, stopped_for, standing_of, State, state_of, is_left}
 use Rattle.capture.specs.Calls.{Reply, answer_of, Scanned, scanned}

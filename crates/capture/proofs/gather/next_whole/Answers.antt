@@ -1,11 +1,11 @@
 -- `capture::gather::next_whole` meets its contract: what the telegram reader refuses stops the reading, what it accepts is given.
 -- Assumes nothing.
-use Rattle.std.proofs.Common.{◌≡◌, ℕ, ◌+◌, ◌-◌, List, length, sym, ap, ◌∙◌, ap₂, arith, rules}
+use Rattle.std.proofs.Common.{◌≡◌, ℕ, ◌+◌, ◌-◌, List, length, sym, ap, ◌∙◌, ap₂}
 use Rattle.telegram.specs.Numbers.{Outcome, done}
 use Rattle.telegram.specs.Telegram.{read_as, reading}
 use Rattle.telegram.specs.declared.Telegram.{Telegram}
 use Rattle.telegram.proofs.Reading.{refusal_is}
-use Rattle.capture.specs.State.{going, State, state_of, resting}
+use Rattle.capture.specs.State.{State, state_of}
 use Rattle.capture.specs.Calls.{telegram, Given, next_judged}
 use Rattle.capture.proofs.Padding.{padded-over}
 use Rattle.capture.proofs.gather.next_whole.Goals as goal

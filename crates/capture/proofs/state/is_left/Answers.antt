@@ -1,7 +1,7 @@
 -- `capture::is_left` meets its contract: at each return the tests that led there pick the answer of `is_left`. Assumes nothing.
-use Rattle.std.proofs.Common.{◌≡◌, ℕ, Bool, true, false, ◌&&◌, eqb, drop, sym, refl, ap, ◌∙◌, arith, rules, eq-eqb, ne_eqb}
+use Rattle.std.proofs.Common.{◌≡◌, ℕ, Bool, true, false, ◌&&◌, eqb, drop, sym, refl, ap, ◌∙◌, arith, eq-eqb, ne_eqb}
 use Rattle.telegram.specs.Numbers.{reason_of}
-use Rattle.capture.specs.State.{Standing, going, ended, stopped_for, standing_of, state_of, zeros}
+use Rattle.capture.specs.State.{going, ended, stopped_for, standing_of, zeros}
 use Rattle.capture.proofs.States.{left-many, left-dirty, left_by_lem}
 use Rattle.capture.proofs.state.is_left.Goals as goal
 use Rattle.capture.proofs.state.is_left.Goals.{Else-not-zero_from}

@@ -1,8 +1,8 @@
 -- `capture::whole_chunk::scan_open` meets its contract: what was counted, with the telegrams in the bytes left, are those of the chunk,
 -- and the bytes left lead to the same state. Assumes nothing.
-use Rattle.std.proofs.Common.{◌≡◌, ℕ, ◌+◌, ◌-◌, ◌<◌, ◌≤◌, true, List, [], length, get_or, drop, sym, refl, ap, ◌∙◌, subst, arith, drop_of_length-le, rules}
+use Rattle.std.proofs.Common.{◌≡◌, ℕ, ◌+◌, ◌≤◌, List, [], length, get_or, drop, sym, refl, ap, ◌∙◌, subst, arith, drop_of_length-le}
 use Rattle.capture.specs.declared.Reading.{Reading}
-use Rattle.capture.specs.State.{going, standing_of, State, state_of, is_left}
+use Rattle.capture.specs.State.{going, standing_of, State, state_of}
 use Rattle.capture.specs.Run.{fed, given, run, telegrams_in}
 use Rattle.capture.specs.Uncut.{Final}
 use Rattle.capture.proofs.Feeding.{Tells, tells}
