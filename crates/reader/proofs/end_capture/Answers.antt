@@ -1,5 +1,5 @@
 -- `reader::end_capture` meets its contract: memory holds no state, or the end of the reading decides. Assumes nothing.
-use Rattle.std.proofs.Common.{◌≡◌, ℕ, ◌≤◌, Bool, true, false, not, length, get_or, sym, refl, ap, ◌∙◌, subst, arith, w8, Fits, rules}
+use Rattle.std.proofs.Common.{◌≡◌, ℕ, ◌≤◌, Bool, false, not, length, get_or, sym, refl, ap, ◌∙◌, subst, w8, Fits, rules}
 use borrow.Author.Tests.{not-true, not-false}
 use Rattle.telegram.specs.Numbers.{Reason, refused, done, refuse}
 use Rattle.telegram.proofs.Outcomes.{never, refused-one}

@@ -1,6 +1,5 @@
 -- `reader::give` meets its contract: there is room for the telegram, or nothing is touched. Assumes nothing.
-use Rattle.std.proofs.Common.{◌≡◌, ℕ, ◌*◌, ◌<◌, ◌≤◌, List, ◌++◌, length, take, drop, sym, refl, ap, ◌∙◌, arith, length-take, length-take-le, rules, le-ltb, lt-ltb}
-use lib.Seq.{take-length}
+use Rattle.std.proofs.Common.{◌≡◌, ℕ, ◌*◌, ◌<◌, ◌≤◌, List, ◌++◌, length, take, drop, sym, refl, ap, ◌∙◌, arith, length-take-le, rules, le-ltb, lt-ltb}
 use Rattle.telegram.proofs.Outcomes.{fit_small, fit-done, told-refused, told-done}
 use Rattle.reader.specs.Interface.{returned}
 use Rattle.reader.proofs.give.Goals as goal

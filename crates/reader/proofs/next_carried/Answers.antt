@@ -1,5 +1,5 @@
 -- `reader::next_carried` meets its contract: memory holds no state, or what the reading answered decides. Assumes nothing.
-use Rattle.std.proofs.Common.{◌≡◌, ℕ, ◌≤◌, Bool, true, false, cond, not, ltb, List, [], length, get_or, sym, refl, ap, ◌∙◌, subst, arith, w8, Fits, rules, le-ltb}
+use Rattle.std.proofs.Common.{◌≡◌, ℕ, ◌≤◌, Bool, false, cond, not, ltb, List, [], length, get_or, sym, refl, ap, ◌∙◌, subst, arith, w8, Fits, rules, le-ltb}
 use borrow.Author.Tests.{not-true, not-false}
 use Rattle.telegram.specs.Numbers.{Reason, refused, done, refuse, fitted, leaves}
 use Rattle.telegram.specs.Telegram.{Bytes}

@@ -1,5 +1,5 @@
 -- `reader::position_of` meets its contract. Assumes nothing.
-use Rattle.std.proofs.Common.{◌≡◌, Bool, true, false, not, sym, ap, ◌∙◌, rules}
+use Rattle.std.proofs.Common.{◌≡◌, Bool, true, false, not, sym, ap, ◌∙◌}
 use borrow.Author.Tests.{not-true, not-false}
 use Rattle.telegram.specs.Numbers.{done, refuse}
 use Rattle.capture.specs.State.{state_of}
@@ -14,7 +14,6 @@ held : (c : After-struct_known-1) (v : Bool) → c.read_state-held.result.valid 
 held c v e =
     sym c.read_state-held.ensures
     ∙ ap (λ (x : Bool). refuse (not x) 11 (done (state_of c.read_state-held.result.reading))) e
-
 
 pub returns-then-not-held : goal.returns-then-not-held
 returns-then-not-held c = position-none _ (held (goal.at.returns-then-not-held c).After-struct_known-1 false (not-true _ c.if-not-held.true))

@@ -1,5 +1,5 @@
 -- `reader::passing::at_rest` meets its contract. Assumes nothing.
-use Rattle.std.proofs.Common.{◌≡◌, ℕ, true, false, sym, ◌∙◌, arith, rules}
+use Rattle.std.proofs.Common.{sym, ◌∙◌, arith}
 use Rattle.reader.proofs.passing.at_rest.Goals as goal
 
 pub returns : goal.returns

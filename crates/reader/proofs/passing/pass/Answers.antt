@@ -1,6 +1,5 @@
 -- `reader::passing::pass` meets its contract: there is room for the telegram, or nothing is touched. Assumes nothing.
 use Rattle.std.proofs.Common.{◌≡◌, ℕ, ◌+◌, ◌-◌, ◌*◌, ◌<◌, ◌≤◌, List, ◌++◌, length, take, drop, sym, refl, ap, ◌∙◌, arith, length-drop, length-take-le, rules, le-ltb, lt-ltb}
-use lib.Seq.{take-length}
 use Rattle.telegram.specs.Telegram.{Bytes}
 use Rattle.telegram.proofs.Reading.{accepted-size}
 use Rattle.telegram.proofs.Outcomes.{fit_small, fit-done, told-refused, told-done}

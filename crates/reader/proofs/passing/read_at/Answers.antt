@@ -1,8 +1,7 @@
 -- `reader::passing::read_at` meets its contract: what is accepted has the length that its index says. Assumes nothing.
-use Rattle.std.proofs.Common.{◌≡◌, ℕ, ◌+◌, ◌-◌, length, take, drop, sym, ◌∙◌, subst, arith, length-drop, length-take-le, rules}
+use Rattle.std.proofs.Common.{◌≡◌, ℕ, ◌+◌, ◌-◌, length, take, drop, sym, ◌∙◌, subst, arith, length-drop, length-take-le}
 use Rattle.telegram.specs.Numbers.{done}
 use Rattle.telegram.specs.Telegram.{reading}
-use Rattle.telegram.proofs.Outcomes.{never}
 use Rattle.telegram.proofs.Reading.{accepted-count}
 use Rattle.reader.proofs.passing.read_at.Goals as goal
 

@@ -1,5 +1,4 @@
 -- `reader::passing::read_whole` meets its contract. Assumes nothing.
-use Rattle.std.proofs.Common.{rules}
 use Rattle.reader.proofs.passing.read_whole.Goals as goal
 
 pub returns : goal.returns
