@@ -60,6 +60,7 @@ pub fn osp_dissect_answer(s: &[u8], out: &mut [u8]) -> u32
 }
 
 // The raw builder: 10, then 9.
+#[tactic(auto, unfolding(telegram::specs::Telegram::building))]
 pub fn osp_build(address: u32, command: u32, payload: &[u8], out: &mut [u8]) -> u32
     ensures value { result ≡ returned (building address command payload.now (length out.old)) }
     ensures out_after { out.new ≡ leaves (building address command payload.now (length out.old)) out.old }
@@ -114,6 +115,7 @@ fn pwm_of_mode(mode: u32, duty: u32) -> Pwm
 }
 
 // SETPWM from its fields, `modes` a sum of 4 for red, 2 for green and 1 for blue in daytime mode: 10, then 9.
+#[tactic(auto, unfolding(crate::specs::Interface::osp_build_pwm))]
 pub fn osp_build_pwm(
     cast: u32,
     value: u32,

