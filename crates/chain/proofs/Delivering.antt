@@ -51,11 +51,13 @@ accepted-number s t e =
 -- What delivery answers and leaves, of what it comes to.
 pub left_as : (room : List ℕ) {l x : Left} {r : Outcome ℕ} {mem' room' : List ℕ} → l ≡ x
     → r ≡ counted x.outcome → mem' ≡ x.memory → room' ≡ leaves x.outcome room
-    → (r ≡ counted l.outcome) × ((mem' ≡ l.memory) × (room' ≡ leaves l.outcome room))
-left_as room e a m o = (
-  a ∙ sym (ap (λ (y : Left). counted y.outcome) e),
-  (m ∙ sym (ap (λ (y : Left). y.memory) e), o ∙ sym (ap (λ (y : Left). leaves y.outcome room) e)),
-)
+    → record { answer : r ≡ counted l.outcome; memory : mem' ≡ l.memory; room : room' ≡ leaves l.outcome room }
+left_as room e a m o =
+    record {
+      answer = a ∙ sym (ap (λ (y : Left). counted y.outcome) e);
+      memory = m ∙ sym (ap (λ (y : Left). y.memory) e);
+      room = o ∙ sym (ap (λ (y : Left). leaves y.outcome room) e);
+    }
 
 -- What the lamps in memory do is what they do with what the dissector gives.
 pub delivered-as : (mem s : List ℕ) {o : Outcome Sent} → dissecting s ≡ o → responding (decode mem).defaults (decode mem).lamps o ≡ delivered_in mem s
@@ -64,7 +66,11 @@ delivered-as mem s e = rw e
 
 -- A refused telegram leaves the room.
 pub refused-told : (mem room : List ℕ) (d : Reason) {r : Outcome ℕ} {mem' : List ℕ}
-    → (r ≡ counted (refused_in mem d).outcome) × (mem' ≡ held_after mem (refused_in mem d))
-    → (r ≡ counted (refused_in mem d).outcome) × ((mem' ≡ held_after mem (refused_in mem d)) × (room ≡ leaves (refused_in mem d).outcome room))
+    → record { answer : r ≡ counted (refused_in mem d).outcome; memory : mem' ≡ held_after mem (refused_in mem d) }
+    → record {
+      answer : r ≡ counted (refused_in mem d).outcome;
+      memory : mem' ≡ held_after mem (refused_in mem d);
+      room : room ≡ leaves (refused_in mem d).outcome room;
+    }
 unfolding refused_in responding
-refused-told mem room d e = (e.0, (e.1, refl))
+refused-told mem room d e = record { answer = e.answer; memory = e.memory; room = refl }

@@ -27,11 +27,12 @@ chain-no mem r e f = sym e ∙ ap (λ (b : Bool). cond b (done (decode mem)) (re
 
 -- What a call that refuses or gives a chain answers and leaves.
 module _ (mem : List ℕ) (o : Outcome Chain) where
-  pub held-refused : {d : Reason} → o ≡ refused_for d → (refused_for d ≡ silent o) × (mem ≡ held mem o)
-  held-refused e = (sym (ap silent e), sym (ap (held mem) e))
+  pub held-refused : {d : Reason} → o ≡ refused_for d → record { answer : refused_for d ≡ silent o; memory : mem ≡ held mem o }
+  held-refused e = record { answer = sym (ap silent e); memory = sym (ap (held mem) e) }
 
-  pub held-done : {c : Chain} {left : List ℕ} → o ≡ done c → left ≡ hold mem c → (done 0 ≡ silent o) × (left ≡ held mem o)
-  held-done e l = (sym (ap silent e), l ∙ sym (ap (held mem) e))
+  pub held-done : {c : Chain} {left : List ℕ} → o ≡ done c → left ≡ hold mem c
+      → record { answer : done 0 ≡ silent o; memory : left ≡ held mem o }
+  held-done e l = record { answer = sym (ap silent e); memory = l ∙ sym (ap (held mem) e) }
 
 -- Making a chain: 11, 9, done.
 module _ (mem : List ℕ) (n : ℕ) (d : Defaults) where
@@ -83,11 +84,15 @@ module _ (mem : List ℕ) (p : ℕ) where
 -- The answer of a lamp: no bytes leave the room as it is, some are the telegram that the raw builder makes.
 module _ (a n : ℕ) (room : List ℕ) where
   pub answer-none : {k : ℕ} (bytes : List ℕ) → k ≡ 0
-      → (done 0 ≡ counted (done (answer_from a n (take k bytes)))) × (room ≡ front (answer_from a n (take k bytes)) room)
-  answer-none bytes e = (
-    sym (ap (λ (k : ℕ). counted (done (answer_from a n (take k bytes)))) e),
-    sym (ap (λ (k : ℕ). front (answer_from a n (take k bytes)) room) e),
-  )
+      → record {
+        answer : done 0 ≡ counted (done (answer_from a n (take k bytes)));
+        room : room ≡ front (answer_from a n (take k bytes)) room;
+      }
+  answer-none bytes e =
+      record {
+        answer = sym (ap (λ (k : ℕ). counted (done (answer_from a n (take k bytes)))) e);
+        room = sym (ap (λ (k : ℕ). front (answer_from a n (take k bytes)) room) e);
+      }
 
   answer-some : (q : List ℕ) → (length q ≡ 0 → ⊥) → telegram_of a n q ≡ answer_from a n q
   answer-some [] h = absurd (h refl)
@@ -95,8 +100,8 @@ module _ (a n : ℕ) (room : List ℕ) where
 
   pub answer-built : (p : List ℕ) {r : Outcome ℕ} {left : List ℕ} → Sendable a n p → 12 ≤ length room → (length p ≡ 0 → ⊥)
       → r ≡ counted (building a n p (length room)) → left ≡ leaves (building a n p (length room)) room
-      → (r ≡ counted (done (answer_from a n p))) × (left ≡ front (answer_from a n p) room)
+      → record { answer : r ≡ counted (done (answer_from a n p)); room : left ≡ front (answer_from a n p) room }
   answer-built p s h k e l =
       let fits : 4 + length p ≤ length room = omega (arith, listed_le (length p) s.size) in
       let b = build-done a n p (length room) s fits ∙ ap done (answer-some p k) in
-      (e ∙ ap counted b, l ∙ ap (λ (o : Outcome (List ℕ)). leaves o room) b)
+      record { answer = e ∙ ap counted b; room = l ∙ ap (λ (o : Outcome (List ℕ)). leaves o room) b }

@@ -174,7 +174,7 @@ start-in-memory n d k a c s =
         before = before;
         make_answer = Done 0;
         fresh = hold before s.made;
-        makes = record { answered = t.0; memory = t.1 };
+        makes = record { answered = t.answer; memory = t.memory };
         made = refl;
         call = call;
         sent = s.sent;

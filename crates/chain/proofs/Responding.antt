@@ -35,16 +35,18 @@ pub record Walks (mem room : List ℕ) (w : Walked) (r : Outcome ℕ) (mem' room
 
 -- The same as a contract has it, and for a walk that is the same.
 pub told : {mem room : List ℕ} {w : Walked} {r : Outcome ℕ} {mem' room' : List ℕ} → Walks mem room w r mem' room'
-    → (r ≡ counted w.outcome) × ((mem' ≡ held_after mem w) × (room' ≡ leaves w.outcome room))
-told w = (w.answer, (w.memory, w.lent))
+    → record { answer : r ≡ counted w.outcome; memory : mem' ≡ held_after mem w; room : room' ≡ leaves w.outcome room }
+told w = record { answer = w.answer; memory = w.memory; room = w.lent }
 
 pub told-as : (mem room : List ℕ) {w u : Walked} {r : Outcome ℕ} {mem' room' : List ℕ} → w ≡ u
-    → (r ≡ counted w.outcome) × ((mem' ≡ held_after mem w) × (room' ≡ leaves w.outcome room))
-    → (r ≡ counted u.outcome) × ((mem' ≡ held_after mem u) × (room' ≡ leaves u.outcome room))
-told-as mem room e (a, (m, o)) = (
-  a ∙ ap (λ (x : Walked). counted x.outcome) e,
-  (m ∙ ap (held_after mem) e, o ∙ ap (λ (x : Walked). leaves x.outcome room) e),
-)
+    → record { answer : r ≡ counted w.outcome; memory : mem' ≡ held_after mem w; room : room' ≡ leaves w.outcome room }
+    → record { answer : r ≡ counted u.outcome; memory : mem' ≡ held_after mem u; room : room' ≡ leaves u.outcome room }
+told-as mem room e q =
+    record {
+      answer = q.answer ∙ ap (λ (x : Walked). counted x.outcome) e;
+      memory = q.memory ∙ ap (held_after mem) e;
+      room = q.room ∙ ap (λ (x : Walked). leaves x.outcome room) e;
+    }
 
 -- A walk that is done with an answer, and one that is refused.
 module _ (mem room : List ℕ) {w : Walked} {xs : List Lamp} where
@@ -141,8 +143,11 @@ quiet mem m All = ap (λ (w : Walked). w.outcome) (walk-everyone (decode mem).de
 quiet mem m (Members g) = ap (λ (w : Walked). w.outcome) (walk-group (decode mem).defaults m 0 (decode mem).lamps g)
 
 pub reached-done : (mem : List ℕ) (m : Message) (reach : Reach) (room : List ℕ) {mem' : List ℕ} → mem' ≡ held_after mem (reached_in mem m (cast_of reach))
-    → (done 0 ≡ counted (reached_in mem m (cast_of reach)).outcome)
-    × ((mem' ≡ held_after mem (reached_in mem m (cast_of reach))) × (room ≡ leaves (reached_in mem m (cast_of reach)).outcome room))
+    → record {
+      answer : done 0 ≡ counted (reached_in mem m (cast_of reach)).outcome;
+      memory : mem' ≡ held_after mem (reached_in mem m (cast_of reach));
+      room : room ≡ leaves (reached_in mem m (cast_of reach)).outcome room;
+    }
 reached-done mem m reach room e =
     let q = sym (quiet mem m reach) in
-    (ap counted q, (e, ap (λ (o : Outcome (List ℕ)). leaves o room) q))
+    record { answer = ap counted q; memory = e; room = ap (λ (o : Outcome (List ℕ)). leaves o room) q }

@@ -1,7 +1,6 @@
 -- `chain::deliver` meets its contract: 9, 11, then what the lamps do with the telegram.
 -- Assumes nothing.
 use mathlib.Core.Path.{◌≡◌, refl}
-use borrow.Author.Tests.{not-true, not-false}
 use Rattle.telegram.specs.Numbers.{done}
 use Rattle.chain.specs.Record.{chain_in, decode}
 use Rattle.chain.proofs.Exits.{chain-yes, chain-no}
@@ -13,17 +12,17 @@ use Rattle.chain.proofs.deliver.Goals.{Else-not-is_valid}
 -- past the second test memory holds a chain
 holds : (c : Else-not-is_valid) → let mem = c.args.mem.now in
     chain_in mem ≡ done (decode mem)
-holds c = chain-yes _ c.is_valid.result c.is_valid.ensures (not-false _ c.if-not-is_valid.false)
+holds c = chain-yes _ c.is_valid.result c.is_valid.ensures c.if-not-is_valid.false
 
 pub returns-then-room-lt12 : goal.returns-then-room-lt12
 returns-then-room-lt12 c = left_as _ (deliver-room _ _ _ c.if-room-lt12.true) refl refl refl
 
 pub returns-then-not-is_valid : goal.returns-then-not-is_valid
-returns-then-not-is_valid c = left_as _ (deliver-invalid _ _ _ c.if-room-lt12.false (chain-no _ c.is_valid.result c.is_valid.ensures (not-true _ c.if-not-is_valid.true))) refl refl refl
+returns-then-not-is_valid c = left_as _ (deliver-invalid _ _ _ c.if-room-lt12.false (chain-no _ c.is_valid.result c.is_valid.ensures c.if-not-is_valid.true)) refl refl refl
 
 pub deliver_valid-requires : goal.deliver_valid-requires
 deliver_valid-requires c = (holds (goal.at.deliver_valid-requires c).Else-not-is_valid, c.if-room-lt12.false)
 
 pub returns : goal.returns
 returns c = let e = c.deliver_valid.ensures in
-    left_as _ (deliver-walks _ _ _ c.if-room-lt12.false (holds (goal.at.returns c).Else-not-is_valid)) e.0 e.1.0 e.1.1
+    left_as _ (deliver-walks _ _ _ c.if-room-lt12.false (holds (goal.at.returns c).Else-not-is_valid)) e.answer e.memory e.room

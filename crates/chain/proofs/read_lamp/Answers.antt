@@ -2,7 +2,6 @@
 -- Assumes nothing.
 use mathlib.Core.Path.{◌∙◌, ◌≡◌, ap, sym}
 use native.Mathlib.Omega.{arith}
-use borrow.Author.Tests.{not-true, not-false}
 use Rattle.telegram.specs.Numbers.{done}
 use Rattle.chain.specs.Record.{chain_in, decode}
 use Rattle.chain.proofs.Validity.{Valid, chain-in}
@@ -14,14 +13,14 @@ use Rattle.chain.proofs.read_lamp.Goals.{Else-not-is_valid}
 -- past the first test memory holds a chain
 holds : (c : Else-not-is_valid) → let mem = c.args.mem.now in
     chain_in mem ≡ done (decode mem)
-holds c = chain-yes _ c.is_valid.result c.is_valid.ensures (not-false _ c.if-not-is_valid.false)
+holds c = chain-yes _ c.is_valid.result c.is_valid.ensures c.if-not-is_valid.false
 
 valid : (c : Else-not-is_valid) → let mem = c.args.mem.now in
     Valid mem (decode mem)
 valid c = chain-in _ _ (holds c)
 
 pub returns-then-not-is_valid : goal.returns-then-not-is_valid
-returns-then-not-is_valid c = sym (read-invalid _ _ (chain-no _ c.is_valid.result c.is_valid.ensures (not-true _ c.if-not-is_valid.true)))
+returns-then-not-is_valid c = sym (read-invalid _ _ (chain-no _ c.is_valid.result c.is_valid.ensures c.if-not-is_valid.true))
 
 pub count_of-requires : goal.count_of-requires
 count_of-requires c = omega (arith, (valid c).room)

@@ -15,3 +15,9 @@ answered-by : {b : Bool} (d : Defaults) (m : Message) (l : Lamp) → obeys m.num
     → padded (cond b (told d m l) []) ≡ padded (answered d m l)
 unfolding answered
 answered-by d m l e = ap (λ (x : Bool). padded (cond x (told d m l) [])) (sym e)
+
+pub returns : goal.returns
+returns c d f = c.no_bytes.ensures ∙ answered-by d (numbered _ f) _ (sym c.heeds.ensures ∙ c.if-heeds.false)
+
+pub returns-then-heeds : goal.returns-then-heeds
+returns-then-heeds c d f = c.told_bytes.ensures d f ∙ answered-by d (numbered _ f) _ (sym c.heeds.ensures ∙ c.if-heeds.true)

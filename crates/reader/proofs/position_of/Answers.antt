@@ -15,11 +15,12 @@ held c v e =
     sym c.read_state-held.ensures
     ∙ ap (λ (x : Bool). refuse (not x) 11 (done (state_of c.read_state-held.result.reading))) e
 
+
 pub returns-then-not-held : goal.returns-then-not-held
 returns-then-not-held c = position-none _ (held (goal.at.returns-then-not-held c).After-struct_known-1 false (not-true _ c.if-not-held.true))
 
 pub returns-then-not-is_left : goal.returns-then-not-is_left
-returns-then-not-is_left c = position-by _ _ false (held (goal.at.returns-then-not-is_left c).After-struct_known-1 true (not-false _ c.if-not-held.false)) (sym c.is_left.ensures ∙ not-true _ c.if-not-is_left.true)
+returns-then-not-is_left c = position-by _ _ false (held (goal.at.returns-then-not-is_left c).After-struct_known-1 true (not-false _ c.if-not-held.false)) (sym c.is_left.ensures ∙ c.if-not-is_left.true)
 
 pub returns : goal.returns
-returns c = position-by _ _ true (held (goal.at.returns c).After-struct_known-1 true (not-false _ c.if-not-held.false)) (sym c.is_left.ensures ∙ not-false _ c.if-not-is_left.false)
+returns c = position-by _ _ true (held (goal.at.returns c).After-struct_known-1 true (not-false _ c.if-not-held.false)) (sym c.is_left.ensures ∙ c.if-not-is_left.false)

@@ -6,4 +6,4 @@ use Rattle.slot.proofs.has_address.Goals as goal
 
 pub returns : goal.returns
 unfolding lamp_of
-returns c = c.is_IsWord.ensures
+returns c = c.is_word.ensures

@@ -1,5 +1,5 @@
 -- `capture::state::unfinished` meets its contract. Assumes nothing.
-use Rattle.std.proofs.Common.{◌≡◌, sym, ap, ◌∙◌, arith, length-take, rules}
+use Rattle.std.proofs.Common.{sym, ap, ◌∙◌, arith, length-take}
 use Rattle.frame.specs.Frame.{cut_as}
 use Rattle.capture.specs.State.{is_incomplete}
 use Rattle.capture.proofs.state.unfinished.Goals as goal

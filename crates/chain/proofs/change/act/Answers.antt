@@ -19,5 +19,5 @@ returns-then-heeds c = let a = c.args in
 pub returns-else-heeds : goal.returns-else-heeds
 unfolding acted
 returns-else-heeds c = let a = c.args in
-    sym (with-self a.mem.now a.p.0 (λ i. omega (arith, c.type_inv.mem i)) c.requires.0)
+    sym (with-self a.mem.now a.p.0 (search rules) c.requires.0)
     ∙ ap (with_lamp a.mem.now a.p.0) (passed-by (λ (l : Lamp). obeys a.n l.state) (changed a.d (command_in a.n a.payload.now)) c.load_lamp-l.ensures c.heeds.ensures c.if-heeds.false)

@@ -15,12 +15,9 @@ loop-i-init c = swept_none _ _ _
 pub act_reached-requires : goal.act_reached-requires
 act_reached-requires c = (omega arith, c.requires.1, c.requires.2)
 
-pub loop-i-smaller : goal.loop-i-smaller
-loop-i-smaller c = let l = c.loop-i in
-    swept-more _ _ _ l.i l.mem l.invariant c.loop-i-test.true c.act_reached.ensures c.act_reached.auto.0
-
 pub loop-i-preserved : goal.loop-i-preserved
-loop-i-preserved c = c.loop-i.invariant.2
+loop-i-preserved c = let l = c.loop-i in
+    swept-more _ _ _ l.i l.mem l.invariant c.loop-i-test.true c.act_reached.ensures c.act_reached.auto.mem
 
 pub returns : goal.returns
 returns c = let l = c.loop-i in

@@ -77,5 +77,5 @@ returns-in-79 c = let a = c.args in
 pub returns-in_default : goal.returns-in_default
 unfolding changed_plain layout_of row_of plain_number acknowledged
 returns-in_default c = let a = c.args in
-    sym (with-self a.mem.now a.p.0 (λ i. omega (arith, c.type_inv.mem i)) c.requires.0)
-    ∙ ap (with_lamp a.mem.now a.p.0) (changed-not a.d a.payload.now _ c.in_default.rest)
+    sym (with-self a.mem.now a.p.0 (search rules) c.requires.0)
+    ∙ ap (with_lamp a.mem.now a.p.0) (changed-not a.d a.payload.now _ {n = a.n} (search rules))

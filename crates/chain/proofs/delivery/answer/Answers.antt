@@ -23,5 +23,5 @@ returns c = let a = c.args in
     (record { address = c.requires.0; command = c.requires.1; size = ap listed l ∙ c.requires.4 })
     c.requires.2
     (λ e. c.if-size-eq0.false (sym l ∙ e))
-    (c.built_answer.ensures ∙ c.build_telegram-built.ensures.0)
-    c.build_telegram-built.ensures.1
+    (c.built_answer.ensures ∙ c.build_telegram-built.ensures.result_value)
+    c.build_telegram-built.ensures.out_after

@@ -7,6 +7,9 @@ use native.Mathlib.Omega.{arith}
 use lib.ListN.{take, drop}
 use Rattle.telegram.specs.Numbers.{refused_for, done, reason_of}
 use Rattle.telegram.specs.Telegram.{read_as, reading}
+use Rattle.telegram.specs.declared.Read.{Read}
+use Rattle.telegram.specs.declared.Read.TheVariants.{Accepted}
+use Rattle.telegram.specs.declared.Telegram.{Telegram}
 use Rattle.telegram.proofs.Reading.{accepted-count, refusal_is}
 use Rattle.command.specs.Commands.{heading_as, naming, dissecting}
 use Rattle.command.specs.declared.Heading.TheVariants.{To}
@@ -16,44 +19,41 @@ use Rattle.chain.proofs.Responding.{told-as}
 use Rattle.chain.proofs.Delivering.{delivered-as, refused-told, accepted-cast, accepted-number}
 use borrow.Author.Rules.{rules}
 use Rattle.chain.proofs.delivery.deliver_valid.Goals as goal
-use Rattle.chain.proofs.delivery.deliver_valid.Goals.{After-refusal_of, In-Accepted, In-Refused, In-To}
-
--- the telegram's bytes
-abbrev bytes : tie.Start → List ℕ
-bytes c = c.args.telegram.now
+use Rattle.chain.proofs.delivery.deliver_valid.Goals.{After-refusal_of, In-Refused, In-To}
 
 -- what the reader accepted ..
-read_is : (c : In-Accepted) → reading (bytes (c-AT Start)) ≡ done c.in-Accepted.t
-read_is c = sym c.read_telegram-read.ensures ∙ ap read_as c.in-Accepted.is
+read_is : (s : List ℕ) {r : Read} {t : Telegram} → read_as r ≡ reading s → r ≡ Accepted t → reading s ≡ done t
+read_is s e q = sym e ∙ ap read_as q
 
 -- .. and what its heading names, so the dissector accepts it
 heading-is : (c : In-To) →
-    let s = bytes (c-AT Start) in
+    let s = c.args.telegram.now in
     let t = c.in-Accepted.t in
     heading_as s t (To c.in-To.cast) ≡ naming s t
 heading-is c =
-    let s = bytes (c-AT Start) in
+    let s = c.args.telegram.now in
     let t = c.in-Accepted.t in
     ap (heading_as s t) (sym c.in-To.is) ∙ c.heading_of-heading.ensures s
 
 sent_is : (c : In-To) →
-    let s = bytes (c-AT Start) in
+    let s = c.args.telegram.now in
     let t = c.in-Accepted.t in
     dissecting s ≡ done (sent_in t.command (take (3 + t.size - 3) (drop 3 s)) c.in-To.cast)
 sent_is c =
-    let r = read_is (c-AT In-Accepted) in
+    let r = read_is c.args.telegram.now c.read_telegram-read.ensures c.in-Accepted.is in
     sym (headed-message _ _ _ (heading-is c) (omega (arith, accepted-count _ _ r)) refl ∙ dissect-named _ r)
 
 -- what the reader or the heading refuses, the dissector refuses
-unread : (c : After-refusal_of) → dissecting (bytes (c-AT Start)) ≡ refused_for (reason_of c.refusal_of.result)
+unread : (c : After-refusal_of) → dissecting c.args.telegram.now ≡ refused_for (reason_of c.refusal_of.result)
 unread c =
     sym (dissect-refused _ (refusal_is _ _ c.read_telegram-read.ensures c.in_default.is c.refusal_of.ensures))
 
-unnamed : (c : In-Refused) → dissecting (bytes (c-AT Start)) ≡ refused_for (reason_of c.in-Refused.e)
+unnamed : (c : In-Refused) → dissecting c.args.telegram.now ≡ refused_for (reason_of c.in-Refused.e)
 unnamed c =
-    let s = bytes (c-AT Start) in
+    let s = c.args.telegram.now in
     let t = c.in-Accepted.t in
-    sym (ap (heading_as s t) (sym c.in-Refused.is) ∙ c.heading_of-heading.ensures s ∙ dissect-named s (read_is (c-AT In-Accepted)))
+    let r = read_is s c.read_telegram-read.ensures c.in-Accepted.is in
+    sym (ap (heading_as s t) (sym c.in-Refused.is) ∙ c.heading_of-heading.ensures s ∙ dissect-named s r)
 
 pub refuse-requires : goal.refuse-requires
 unfolding responded_in refused_in
@@ -66,23 +66,23 @@ returns-in_default c = let a = c.args in
 
 pub overflow_add-end : goal.overflow_add-end
 unfolding responded_in refused_in
-overflow_add-end c = omega (arith, accepted-count _ _ (read_is (goal.at.overflow_add-end c).In-Accepted))
+overflow_add-end c = omega (arith, accepted-count _ _ (read_is _ c.read_telegram-read.ensures c.in-Accepted.is))
 
 pub slice_bounds-respond-count : goal.slice_bounds-respond-count
 unfolding responded_in refused_in
-slice_bounds-respond-count c = omega (arith, accepted-count _ _ (read_is (goal.at.slice_bounds-respond-count c).In-Accepted))
+slice_bounds-respond-count c = omega (arith, accepted-count _ _ (read_is _ c.read_telegram-read.ensures c.in-Accepted.is))
 
 pub slice_bounds-respond-start : goal.slice_bounds-respond-start
 unfolding responded_in refused_in
-slice_bounds-respond-start c = omega (arith, accepted-count _ _ (read_is (goal.at.slice_bounds-respond-start c).In-Accepted))
+slice_bounds-respond-start c = omega (arith, accepted-count _ _ (read_is _ c.read_telegram-read.ensures c.in-Accepted.is))
 
 pub slice_bounds-respond-end : goal.slice_bounds-respond-end
 unfolding responded_in refused_in
-slice_bounds-respond-end c = omega (arith, accepted-count _ _ (read_is (goal.at.slice_bounds-respond-end c).In-Accepted))
+slice_bounds-respond-end c = omega (arith, accepted-count _ _ (read_is _ c.read_telegram-read.ensures c.in-Accepted.is))
 
 pub respond-requires : goal.respond-requires
 unfolding responded_in refused_in
-respond-requires c = let r = read_is (goal.at.respond-requires c).In-Accepted in
+respond-requires c = let r = read_is _ c.read_telegram-read.ensures c.in-Accepted.is in
     let p = c.requires in
     (p.0, headed-size _ _ _ (heading-is (goal.at.respond-requires c).In-To) (omega (arith, accepted-count _ _ r)), accepted-number _ _ r, accepted-cast _ _ (sent_is (goal.at.respond-requires c).In-To), p.1)
 

@@ -21,11 +21,11 @@ mark_one-requires c = omega (arith, (valid (goal.at.mark_one-requires c).Start).
 pub returns-then-refusal_number-eq5 : goal.returns-then-refusal_number-eq5
 unfolding decode
 returns-then-refusal_number-eq5 c = let m = c.args.mem.now in
-    let w = refuse-marks m (λ i. omega (arith, c.type_inv.mem i)) (valid (goal.at.returns-then-refusal_number-eq5 c).Start) _ m (sym c.refusal_number.ensures ∙ c.if-refusal_number-eq5.true) c.mark_one.ensures in
-    (w.answer, w.memory)
+    let w = refuse-marks m (search rules) (valid (goal.at.returns-then-refusal_number-eq5 c).Start) _ m (sym c.refusal_number.ensures ∙ c.if-refusal_number-eq5.true) c.mark_one.ensures in
+    record { answer = w.answer; memory = w.memory }
 
 pub returns-else-refusal_number-eq5 : goal.returns-else-refusal_number-eq5
 unfolding decode
 returns-else-refusal_number-eq5 c = let m = c.args.mem.now in
-    let w = refuse-other m (λ i. omega (arith, c.type_inv.mem i)) (valid (goal.at.returns-else-refusal_number-eq5 c).Start) _ m (λ e. c.if-refusal_number-eq5.false (c.refusal_number.ensures ∙ e)) in
-    (w.answer, w.memory)
+    let w = refuse-other m (search rules) (valid (goal.at.returns-else-refusal_number-eq5 c).Start) _ m (λ e. c.if-refusal_number-eq5.false (c.refusal_number.ensures ∙ e)) in
+    record { answer = w.answer; memory = w.memory }

@@ -31,9 +31,9 @@ send-requires c = let p = c.requires in
 pub returns-in-Granted : goal.returns-in-Granted
 returns-in-Granted c = let a = c.args in
     told-as a.mem.now a.room.now
-    (sym (respond-granted a.mem.now (λ i. omega (arith, c.type_inv.mem i)) (chain-in _ _ c.requires.0) (sent_in a.n a.payload.now a.cast) (permitted (goal.at.returns-in-Granted c).After-permit-permitted c.in-Granted.is)))
+    (sym (respond-granted a.mem.now (search rules) (chain-in _ _ c.requires.0) (sent_in a.n a.payload.now a.cast) (permitted (goal.at.returns-in-Granted c).After-permit-permitted c.in-Granted.is)))
     c.send.ensures
 
 pub returns-in-Refused : goal.returns-in-Refused
 returns-in-Refused c = let a = c.args in
-    told (respond-refused a.mem.now (λ i. omega (arith, c.type_inv.mem i)) (chain-in _ _ c.requires.0) (sent_in a.n a.payload.now a.cast) a.room.now (permitted (goal.at.returns-in-Refused c).After-permit-permitted c.in-Refused.is))
+    told (respond-refused a.mem.now (search rules) (chain-in _ _ c.requires.0) (sent_in a.n a.payload.now a.cast) a.room.now (permitted (goal.at.returns-in-Refused c).After-permit-permitted c.in-Refused.is))

@@ -69,5 +69,4 @@ returns-in-One c = let a = c.args in
 
 pub returns-in-Group : goal.returns-in-Group
 returns-in-Group c = let a = c.args in
-    let g = c.cast-in-Group-1.given in
-    told-as a.mem.now a.room.now (plain (goal.at.returns-in-Group c).Else-is_init g.1) (reached-done a.mem.now (command_in a.n a.payload.now) (Members g.0.0) a.room.now c.spread-in-Group.ensures)
+    told-as a.mem.now a.room.now (plain (goal.at.returns-in-Group c).Else-is_init c.in-Group.is) (reached-done a.mem.now (command_in a.n a.payload.now) (Members c.in-Group.g) a.room.now c.spread-in-Group.ensures)

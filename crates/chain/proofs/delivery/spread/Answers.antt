@@ -32,7 +32,7 @@ held c reach =
     let a = c.args in
     let m = command_in a.n a.payload.now in
     ap₂ (λ (d : Defaults) (n : ℕ). sweep (λ (p : ℕ) (l : Lamp). acted_in reach d m l) 0 n a.mem.now) c.defaults_of-d.ensures c.count_of-count.ensures
-    ∙ spread-held a.mem.now (λ i. omega (arith, c.type_inv.mem i)) (valid (c-AT Start)) m reach
+    ∙ spread-held a.mem.now (search rules) (chain-in _ _ c.requires.0) m reach
 
 pub count_of-count-requires : goal.count_of-count-requires
 unfolding decode

@@ -7,6 +7,8 @@ use Rattle.telegram.specs.Telegram.{listed}
 use Rattle.rules.specs.declared.Defaults.{Defaults}
 use Rattle.rules.specs.declared.Lamp.{Lamp}
 use Rattle.rules.specs.Lamp.{acted, answered}
+use mathlib.Core.List.{List}
+use Rattle.chain.specs.declared.Found.{Found}
 use Rattle.chain.specs.declared.Found.TheVariants.{At}
 use Rattle.chain.specs.Record.{count_of, lamps_in, decode}
 use Rattle.chain.specs.Places.{lamp_at, with_lamp, place_from}
@@ -17,7 +19,7 @@ use Rattle.chain.proofs.Validity.{Valid, chain-in}
 use Rattle.chain.proofs.Responding.{told, unicast-nobody, found_in, unicast-found}
 use borrow.Author.Rules.{rules}
 use Rattle.chain.proofs.delivery.unicast.Goals as goal
-use Rattle.chain.proofs.delivery.unicast.Goals.{After-answer_bytes, After-find-found, After-load_lamp, In-At, In-At-1, In-At-2, Start}
+use Rattle.chain.proofs.delivery.unicast.Goals.{After-answer_bytes, In-At, Start}
 
 -- memory holds a chain
 valid : (c : Start) → let mem = c.args.mem.now in
@@ -25,20 +27,19 @@ valid : (c : Start) → let mem = c.args.mem.now in
 valid c = chain-in _ _ c.requires.0
 
 -- what the search gave
-search_is : (c : After-find-found) → let a = c.args in
-    c.find-found.result ≡ place_from 0 a.a.0 (lamps_in (count_of a.mem.now) a.mem.now)
-search_is c = let a = c.args in
-    c.find-found.ensures ∙ ap (λ (n : ℕ). place_from 0 a.a.0 (lamps_in n a.mem.now)) c.count_of-count.ensures
+search_is : (mem : List ℕ) (a : ℕ) {n : ℕ} {f : Found} → f ≡ place_from 0 a (lamps_in n mem) → n ≡ count_of mem
+    → f ≡ place_from 0 a (lamps_in (count_of mem) mem)
+search_is mem a e k = e ∙ ap (λ (n : ℕ). place_from 0 a (lamps_in n mem)) k
 
 -- the place that was found
 found-is : (c : In-At) → let a = c.args in
     place_from 0 a.a.0 (lamps_in (count_of a.mem.now) a.mem.now) ≡ At c.in-At.p
-found-is c = sym (search_is (c-AT After-find-found)) ∙ c.in-At.is
+found-is c = sym (search_is c.args.mem.now c.args.a.0 c.find-found.ensures c.count_of-count.ensures) ∙ c.in-At.is
 
 in-chain : (c : In-At) → c.in-At.p.0 < count_of c.args.mem.now
 in-chain c =
     let a = c.args in
-    found_in a.mem.now (λ i. omega (arith, c.type_inv.mem i)) (valid (c-AT Start)) (command_in a.n a.payload.now) a.a _ (found-is c)
+    found_in a.mem.now (search rules) (chain-in _ _ c.requires.0) (command_in a.n a.payload.now) a.a _ (found-is c)
 
 -- the bytes of the answer
 bytes : (c : After-answer_bytes) → let a = c.args in
@@ -60,12 +61,12 @@ find-found-requires c = omega (arith, (valid (goal.at.find-found-requires c).Sta
 pub returns-in_default : goal.returns-in_default
 unfolding decode
 returns-in_default c = let a = c.args in
-    told (unicast-nobody a.mem.now (λ i. omega (arith, c.type_inv.mem i)) (valid (goal.at.returns-in_default c).Start) (command_in a.n a.payload.now) a.a a.room.now
-    (sym (search_is (goal.at.returns-in_default c).After-find-found) ∙ c.in_default.is))
+    told (unicast-nobody a.mem.now (search rules) (valid (goal.at.returns-in_default c).Start) (command_in a.n a.payload.now) a.a a.room.now
+    (sym (search_is a.mem.now a.a.0 c.find-found.ensures c.count_of-count.ensures) ∙ c.in_default.is))
 
 pub load_lamp-requires : goal.load_lamp-requires
 unfolding decode
-load_lamp-requires c = omega (arith, (valid (goal.at.load_lamp-requires c).Start).room, in-chain (goal.at.load_lamp-requires c).In-At-2)
+load_lamp-requires c = omega (arith, (valid (goal.at.load_lamp-requires c).Start).room, in-chain (goal.at.load_lamp-requires c).In-At)
 
 pub answer-told-requires : goal.answer-told-requires
 unfolding decode
@@ -78,7 +79,7 @@ defaults_of-requires c = omega (arith, (valid (goal.at.defaults_of-requires c).S
 
 pub act-requires : goal.act-requires
 unfolding decode
-act-requires c = (omega (arith, (valid (goal.at.act-requires c).Start).room, in-chain (goal.at.act-requires c).In-At-1), c.requires.1)
+act-requires c = (omega (arith, (valid (goal.at.act-requires c).Start).room, in-chain (goal.at.act-requires c).In-At), c.requires.1)
 
 pub returns : goal.returns
 unfolding decode
@@ -87,8 +88,8 @@ returns c = let a = c.args in
     let q = c.in-At.p in
     let x = command_in a.n a.payload.now in
     let e = c.answer-told.ensures in
-    told (unicast-found m (λ i. omega (arith, c.type_inv.mem i)) (valid (goal.at.returns c).Start) x a.a q (found-is (goal.at.returns c).In-At-1) a.room.now
+    told (unicast-found m (search rules) (valid (goal.at.returns c).Start) x a.a q (found-is (goal.at.returns c).In-At) a.room.now
     (c.act.ensures ∙ ap (λ (d : Defaults). with_lamp m q.0 (acted d x (lamp_at m q.0))) c.defaults_of.ensures)
-    (bytes (goal.at.returns c).After-load_lamp).payload
-    e.0
-    e.1)
+    (bytes (goal.at.returns c).After-answer_bytes).payload
+    e.answer
+    e.room)

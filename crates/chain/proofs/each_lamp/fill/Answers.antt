@@ -10,12 +10,9 @@ use Rattle.chain.proofs.each_lamp.fill.Goals as goal
 pub loop-i-init : goal.loop-i-init
 loop-i-init c = swept_none _ _ _
 
-pub loop-i-smaller : goal.loop-i-smaller
-loop-i-smaller c = let l = c.loop-i in
-    swept-more _ _ _ l.i l.mem l.invariant c.loop-i-test.true c.store_lamp.ensures c.store_lamp.auto.0
-
 pub loop-i-preserved : goal.loop-i-preserved
-loop-i-preserved c = c.loop-i.invariant.2
+loop-i-preserved c = let l = c.loop-i in
+    swept-more _ _ _ l.i l.mem l.invariant c.loop-i-test.true c.store_lamp.ensures c.store_lamp.auto.mem
 
 pub returns : goal.returns
 returns c = let l = c.loop-i in

@@ -12,12 +12,9 @@ use Rattle.chain.proofs.each_lamp.mark_lamps.Goals as goal
 pub loop-i-init : goal.loop-i-init
 loop-i-init c = swept_none _ _ _
 
-pub loop-i-smaller : goal.loop-i-smaller
-loop-i-smaller c = let l = c.loop-i in
-    swept-more _ _ _ l.i l.mem l.invariant c.loop-i-test.true c.mark_one.ensures c.mark_one.auto.0
-
 pub loop-i-preserved : goal.loop-i-preserved
-loop-i-preserved c = c.loop-i.invariant.2
+loop-i-preserved c = let l = c.loop-i in
+    swept-more _ _ _ l.i l.mem l.invariant c.loop-i-test.true c.mark_one.ensures c.mark_one.auto.mem
 
 pub returns : goal.returns
 returns c = let l = c.loop-i in

@@ -13,5 +13,5 @@ use Rattle.chain.proofs.each_lamp.mark_one.Goals as goal
 
 pub returns-else-on : goal.returns-else-on
 returns-else-on c = let a = c.args in
-    sym (with-self a.mem.now a.p.0 (λ i. omega (arith, c.type_inv.mem i)) c.requires)
+    sym (with-self a.mem.now a.p.0 (search rules) c.requires)
     ∙ ap (λ (b : Bool). with_lamp a.mem.now a.p.0 (cond b (with_ce (lamp_at a.mem.now a.p.0)) (lamp_at a.mem.now a.p.0))) (sym c.if-on.false)

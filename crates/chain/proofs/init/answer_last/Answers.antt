@@ -28,7 +28,8 @@ answer-requires c = let p = c.requires in
 
 pub returns : goal.returns
 returns c = let s = c.args in
-    let e = (bytes (goal.at.returns c).After-report_bytes).payload in (
-      c.answer.ensures.0 ∙ ap (λ (p : List ℕ). counted (done (answer_from s.a.0 s.n p))) e,
-      c.answer.ensures.1 ∙ ap (λ (p : List ℕ). front (answer_from s.a.0 s.n p) s.room.now) e,
-    )
+    let e = (bytes (goal.at.returns c).After-report_bytes).payload in
+    record {
+      answer = c.answer.ensures.answer ∙ ap (λ (p : List ℕ). counted (done (answer_from s.a.0 s.n p))) e;
+      room = c.answer.ensures.room ∙ ap (λ (p : List ℕ). front (answer_from s.a.0 s.n p) s.room.now) e;
+    }

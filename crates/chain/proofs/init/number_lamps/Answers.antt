@@ -15,18 +15,14 @@ loop-i-init c = (swept_none _ _ _, omega arith)
 pub overflow_add-a : goal.overflow_add-a
 overflow_add-a c = omega (arith, c.loop-i.invariant.1)
 
-pub loop-i-smaller : goal.loop-i-smaller
-loop-i-smaller c = let l = c.loop-i in
-    let t = c.args in
-    (
+pub loop-i-preserved : goal.loop-i-preserved
+loop-i-preserved c = let l = c.loop-i in
+    let t = c.args in (
       swept-more _ _ _ l.i l.mem l.invariant.0 c.loop-i-test.true
           (c.number_one.ensures ∙ ap (λ (k : ℕ). with_lamp l.mem l.i (numbered_as t.n k (lamp_at l.mem l.i))) l.invariant.1)
-          c.number_one.auto.0,
+          c.number_one.auto.mem,
       omega (arith, l.invariant.1),
     )
-
-pub loop-i-preserved : goal.loop-i-preserved
-loop-i-preserved c = c.loop-i.invariant.0.2
 
 pub returns : goal.returns
 returns c = let l = c.loop-i in

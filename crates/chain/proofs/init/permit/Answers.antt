@@ -3,7 +3,7 @@
 use mathlib.Core.Path.{◌≡◌, ◌∙◌, ap, sym, subst}
 use mathlib.Core.Bool.{true}
 use lib.Dec.{leb}
-use borrow.Author.Tests.{leb-true, not-true, not-false}
+use borrow.Author.Tests.{leb-true}
 use Rattle.table.specs.declared.Cast.{Cast}
 use Rattle.table.specs.declared.Cast.TheVariants.{One}
 use Rattle.table.specs.Casts.{cast_in_range}
@@ -18,11 +18,11 @@ use Rattle.chain.proofs.init.permit.Goals.{Else-not-is_init}
 
 -- it is an init
 init : (c : Else-not-is_init) → is_init c.args.n ≡ true
-init c = sym c.is_init.ensures ∙ not-false _ c.if-not-is_init.false
+init c = sym c.is_init.ensures ∙ c.if-not-is_init.false
 
-pub permit_all-requires : goal.permit_all-requires
-permit_all-requires c = let a = c.args in
-    permit-plain (decode a.mem.now).lamps a.n p a.cast (sym c.is_init.ensures ∙ not-true _ c.if-not-is_init.true)
+pub returns-then-not-is_init : goal.returns-then-not-is_init
+returns-then-not-is_init c = let a = c.args in
+    λ p. permit-plain (decode a.mem.now).lamps a.n p a.cast (sym c.is_init.ensures ∙ c.if-not-is_init.true)
 
 pub permit_from-requires : goal.permit_from-requires
 permit_from-requires c = let a = c.in-One.first in
@@ -32,14 +32,14 @@ permit_from-requires c = let a = c.in-One.first in
 pub returns-in-Everyone : goal.returns-in-Everyone
 returns-in-Everyone c = let a = c.args in
     let xs = (decode a.mem.now).lamps in
-    c.permit_all.ensures (sent_in a.n p a.cast) ∙ ap (permitting_init xs (sent_in a.n p a.cast)) (sym c.in-Everyone.is) ∙ permit-init xs a.n p a.cast (init (goal.at.returns-in-Everyone c).Else-not-is_init)
+    λ p. c.permit_all.ensures (sent_in a.n p a.cast) ∙ ap (permitting_init xs (sent_in a.n p a.cast)) (sym c.in-Everyone.is) ∙ permit-init xs a.n p a.cast (init (goal.at.returns-in-Everyone c).Else-not-is_init)
 
 pub returns-in-One : goal.returns-in-One
 returns-in-One c = let a = c.args in
     let xs = (decode a.mem.now).lamps in
-    c.permit_from.ensures (sent_in a.n p a.cast) ∙ ap (permitting_init xs (sent_in a.n p a.cast)) (sym c.in-One.is) ∙ permit-init xs a.n p a.cast (init (goal.at.returns-in-One c).Else-not-is_init)
+    λ p. c.permit_from.ensures (sent_in a.n p a.cast) ∙ ap (permitting_init xs (sent_in a.n p a.cast)) (sym c.in-One.is) ∙ permit-init xs a.n p a.cast (init (goal.at.returns-in-One c).Else-not-is_init)
 
 pub returns-in-Group : goal.returns-in-Group
 returns-in-Group c = let a = c.args in
     let xs = (decode a.mem.now).lamps in
-    ap (permitting_init xs (sent_in a.n p a.cast)) (sym c.in-Group.is) ∙ permit-init xs a.n p a.cast (init (goal.at.returns-in-Group c).Else-not-is_init)
+    λ p. ap (permitting_init xs (sent_in a.n p a.cast)) (sym c.in-Group.is) ∙ permit-init xs a.n p a.cast (init (goal.at.returns-in-Group c).Else-not-is_init)

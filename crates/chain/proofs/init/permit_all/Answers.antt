@@ -3,6 +3,7 @@
 use mathlib.Core.Bool.{true, false}
 use native.Mathlib.Omega.{arith}
 use Rattle.chain.specs.Record.{decode}
+use borrow.Author.Rules.{rules}
 use Rattle.chain.proofs.Validity.{Valid, chain-in}
 use Rattle.chain.proofs.Inits.{permit-tested}
 use Rattle.chain.proofs.init.permit_all.Goals as goal
@@ -20,7 +21,7 @@ pub any_unaddressed-requires : goal.any_unaddressed-requires
 any_unaddressed-requires c = omega (arith, (valid (goal.at.any_unaddressed-requires c).Start).room, c.count_of.ensures)
 
 pub returns-then-any_unaddressed : goal.returns-then-any_unaddressed
-returns-then-any_unaddressed c = permit-tested c.args.mem.now (λ i. omega (arith, c.type_inv.mem i)) (valid (goal.at.returns-then-any_unaddressed c).Start) c.count_of.ensures c.any_unaddressed.ensures t true c.if-any_unaddressed.true
+returns-then-any_unaddressed c = λ t. permit-tested c.args.mem.now (search rules) (valid (goal.at.returns-then-any_unaddressed c).Start) c.count_of.ensures c.any_unaddressed.ensures t true c.if-any_unaddressed.true
 
 pub returns : goal.returns
-returns c = permit-tested c.args.mem.now (λ i. omega (arith, c.type_inv.mem i)) (valid (goal.at.returns c).Start) c.count_of.ensures c.any_unaddressed.ensures t false c.if-any_unaddressed.false
+returns c = λ t. permit-tested c.args.mem.now (search rules) (valid (goal.at.returns c).Start) c.count_of.ensures c.any_unaddressed.ensures t false c.if-any_unaddressed.false
