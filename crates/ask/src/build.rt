@@ -149,10 +149,11 @@ fn command_at(line: &[u8], at: usize, number: u8) -> Composition {
 }
 
 // Prints the bytes of a telegram, without the space before the first.
-fn print_bytes(s: &[u8], err: i32) -> u8 {
+fn print_bytes<R: Print>(rt: &R, s: &[u8], err: i32) -> u8 {
     let mut page = [0u8; 40];
     let n = words::put_form(&mut page, 0, b"", b"%X\n", [0; 8], s);
     complaint::finish(
+        rt,
         err,
         complaint::BUILD,
         text::from(&page, 1),
@@ -162,11 +163,11 @@ fn print_bytes(s: &[u8], err: i32) -> u8 {
 }
 
 // Prints the telegram of a command.
-fn print(command: Command, cast: Cast, err: i32) -> u8 {
+fn print<R: Print>(rt: &R, command: Command, cast: Cast, err: i32) -> u8 {
     let mut telegram = [0u8; 12];
     let b = command::build_command(command, cast, &mut telegram);
     match b {
-        Built::Done(n) => print_bytes(text::first(&telegram, n), err),
+        Built::Done(n) => print_bytes(rt, text::first(&telegram, n), err),
         Built::Refused(e) => complaint::say_refusal(
             err,
             complaint::BUILD,
@@ -175,37 +176,37 @@ fn print(command: Command, cast: Cast, err: i32) -> u8 {
     }
 }
 
-fn build_values(line: &[u8], at: usize, number: u8, cast: Cast, err: i32) -> u8 {
+fn build_values<R: Print>(rt: &R, line: &[u8], at: usize, number: u8, cast: Cast, err: i32) -> u8 {
     let c = command_at(line, at, number);
     match c {
-        Composition::Done(command) => print(command, cast, err),
+        Composition::Done(command) => print(rt, command, cast, err),
         Composition::Refused(refusal) => complaint::say_refusal(err, complaint::BUILD, refusal),
         Composition::Wrong => complaint::say(err, complaint::BUILD, complaint::PAYLOAD_EXPECTED),
     }
 }
 
-fn build_command(line: &[u8], at: usize, cast: Cast, err: i32) -> u8 {
+fn build_command<R: Print>(rt: &R, line: &[u8], at: usize, cast: Cast, err: i32) -> u8 {
     let w = text::reading::word_at(line, at);
     let word = word_in(line, w);
     let book = words::book();
     let named = words::command_named(&book, word);
     match named {
-        Named::Command(number) => build_values(line, w.to, number, cast, err),
+        Named::Command(number) => build_values(rt, line, w.to, number, cast, err),
         Named::Nothing => complaint::say_word(err, complaint::BUILD, complaint::NO_COMMAND, word),
     }
 }
 
-fn build_line(line: &[u8], err: i32) -> u8 {
+fn build_line<R: Print>(rt: &R, line: &[u8], err: i32) -> u8 {
     let d = direction_in(line);
     match d {
-        Directed::To(cast, at) => build_command(line, at, cast, err),
+        Directed::To(cast, at) => build_command(rt, line, at, cast, err),
         Directed::Nobody => complaint::say(err, complaint::BUILD, complaint::ADDRESS_EXPECTED),
     }
 }
 
 // The subcommand.
-pub fn build(arguments: &[u8], err: i32) -> u8 {
+pub fn build<R: Print>(rt: &R, arguments: &[u8], err: i32) -> u8 {
     let mut space = io::buffer();
     let n = text::reading::put_arguments(&mut space, 0, arguments);
-    build_line(text::first(&space, n), err)
+    build_line(rt, text::first(&space, n), err)
 }

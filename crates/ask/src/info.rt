@@ -149,7 +149,7 @@ fn put_rows(out: &mut [u8], at: usize, book: &[u8]) -> usize {
     a
 }
 
-fn print_all(book: &[u8], err: i32) -> u8 {
+fn print_all<R: Print>(rt: &R, book: &[u8], err: i32) -> u8 {
     let mut page = io::buffer();
     let a = text::put(
         &mut page,
@@ -157,7 +157,7 @@ fn print_all(book: &[u8], err: i32) -> u8 {
         b"hex name            casts              payload answer what it does\n",
     );
     let n = put_rows(&mut page, a, book);
-    complaint::finish(err, complaint::INFO, &page, n, 0)
+    complaint::finish(rt, err, complaint::INFO, &page, n, 0)
 }
 
 // The form for a payload and an answer of so many bytes.
@@ -206,25 +206,25 @@ fn put_block(out: &mut [u8], book: &[u8], number: u8, row: Row) -> usize {
     put_told(out, c, book, request_told(number), b"")
 }
 
-fn print_one(book: &[u8], number: u8, err: i32) -> u8 {
+fn print_one<R: Print>(rt: &R, book: &[u8], number: u8, err: i32) -> u8 {
     let mut page = io::buffer();
     let entry = table::row_of(number);
     let Entry::Known(row) = entry else {
         return 2;
     };
     let n = put_block(&mut page, book, number, row);
-    complaint::finish(err, complaint::INFO, &page, n, 0)
+    complaint::finish(rt, err, complaint::INFO, &page, n, 0)
 }
 
 // The subcommand.
-pub fn info(word: &[u8], err: i32) -> u8 {
+pub fn info<R: Print>(rt: &R, word: &[u8], err: i32) -> u8 {
     let book = words::book();
     if word.len() == 0 {
-        return print_all(&book, err);
+        return print_all(rt, &book, err);
     }
     let named = words::command_named(&book, word);
     match named {
-        Named::Command(number) => print_one(&book, number, err),
+        Named::Command(number) => print_one(rt, &book, number, err),
         Named::Nothing => complaint::say_word(err, complaint::INFO, complaint::NO_COMMAND, word),
     }
 }

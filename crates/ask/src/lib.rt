@@ -18,15 +18,15 @@ fn page_for(word: &[u8]) -> usize {
 }
 
 // Prints how the subcommands are called.
-pub fn help(word: &[u8], err: i32) -> u8 {
+pub fn help<R: Print>(rt: &R, word: &[u8], err: i32) -> u8 {
     let k = page_for(word);
     if 8 < k {
         return complaint::say_word(err, complaint::HELP, complaint::NO_SUBCOMMAND, word);
     }
-    print_page(k, err)
+    print_page(rt, k, err)
 }
 
-fn print_page(k: usize, err: i32) -> u8 {
+fn print_page<R: Print>(rt: &R, k: usize, err: i32) -> u8 {
     let page = text::page_of(
         b"osp fields HEX..                        the fields of a telegram, and why it is refused
 osp build ADDRESS COMMAND [VALUES]      the bytes of a telegram
@@ -67,5 +67,5 @@ Takes a subcommand from each line of standard input. Prints the line, what the s
 ",
         k,
     );
-    complaint::finish(err, complaint::HELP, page, page.len(), 0)
+    complaint::finish(rt, err, complaint::HELP, page, page.len(), 0)
 }

@@ -5,7 +5,7 @@ use Rattle.telegram.specs.Numbers.{Reason, refused_for}
 use Rattle.telegram.proofs.Outcomes.{never}
 use Rattle.capture.specs.State.{Standing, going, ended, stopped_for, State, is_left}
 use Rattle.capture.specs.Run.{run}
-use Rattle.capture.specs.Calls.{answer_of, nexting, closing, Scanned, scanning}
+use Rattle.capture.specs.Calls.{answer_of, nexting, closing, Scanned}
 use Rattle.capture.specs.Uncut.{Taken, LeavesTaken, TakenIsLeft, LeftIsTaken, Eleven, NeverEleven, ElevenExact, EndAndRefusalStay}
 use Rattle.capture.proofs.States.{none-stopped, stops_as, stops-low, next-not, end-not, scan-not, scan-left}
 use Rattle.capture.proofs.Taken.{leaves-taken}

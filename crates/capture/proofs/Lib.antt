@@ -13,5 +13,4 @@ pub mod Repeating
 pub mod Onto
 pub mod Reached
 pub mod Eleven
-pub mod Walks
 pub mod Carrying

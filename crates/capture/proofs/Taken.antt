@@ -10,7 +10,7 @@ use Rattle.frame.proofs.Cuts.{fault, incomplete-short}
 use Rattle.frame.proofs.Fronts.{bytes-none, bytes-cons, bytes-append, bytes_take, bytes_drop, bytes-zeros, none-incomplete, whole-refused}
 use Rattle.capture.specs.State.{Standing, going, ended, stopped_for, stopped, checksums_in, State, carrying, resting, carried_in, stops, is_left}
 use Rattle.capture.specs.Run.{wrapped, judged, grown, fed, fed_by, run, ended_by, at_end}
-use Rattle.capture.specs.Calls.{Given, next_by, nexting, Closed, closing, Scanned, scanning}
+use Rattle.capture.specs.Calls.{Given, next_by, nexting, Closed, Scanned}
 use Rattle.capture.specs.Uncut.{Taken, LeavesTaken}
 use Rattle.capture.proofs.States.{left-carrying, left_ended, left-stopped, stops-differ, next-by, end_by, scan-left}
 use Rattle.capture.proofs.Telegrams.{next-state}

@@ -10,7 +10,6 @@ mod telegrams;
 
 use captures::{of_a_reader, run_reader};
 use chains::{of_a_chain, run_chain};
-use libc::STDIN_FILENO;
 use line::bytes_of;
 use printing::print;
 use telegrams::run_case;
@@ -20,7 +19,7 @@ pub(crate) const FILL: u8 = 0x5A;
 
 fn main() {
     let mut text = io::large_buffer();
-    let n = io::read_full(STDIN_FILENO, &mut text);
+    let n = io::read_full(text::IN, &mut text);
     let mut memory = [FILL; 16384];
     run_lines(&text[..n], &mut memory);
 }
@@ -31,7 +30,7 @@ fn run_lines(text: &[u8], memory: &mut [u8]) {
     let mut lent = 0;
     let mut at = 0;
     while at < n {
-        let end = bytes::scan::find(text, at, n, b'\n');
+        let end = text::find(text, at, n, b'\n');
         lent = run_line(&text[at..end], memory, lent);
         at = end + 1;
     }

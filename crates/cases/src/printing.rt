@@ -1,6 +1,5 @@
 // The results of cases as lines.
 use crate::FILL;
-use libc::STDOUT_FILENO;
 
 // The result of a call with a room of its own.
 pub(crate) fn print_room(res: u32, out: &[u8; 48]) {
@@ -90,7 +89,7 @@ fn print_long(n: u32) {
 }
 
 pub(crate) fn print(s: &[u8]) {
-    io::write_all(STDOUT_FILENO, s);
+    io::write_all(text::OUT, s);
 }
 
 fn print_decimal(n: u32) {

@@ -1,6 +1,10 @@
 // What the tool says when something is wrong: one line, "osp: SUBCOMMAND: ..", on a descriptor for errors.
 #![tactic(auto)]
 
+use std::fmt;
+use std::fmt::Write;
+use std::io::Error;
+
 // The subcommands by number, as `named` spells them.
 pub const FIELDS: u8 = 0;
 
@@ -181,7 +185,7 @@ fn say_told(err: i32, subcommand: u8, what: u8, first: u64, second: u64, word: &
     let a = put_start(&mut line, subcommand);
     let b = put_wrong(&mut line, a, what, first, second, word);
     let c = text::put_byte(&mut line, b, b'\n');
-    text::flush(err, &line, c);
+    text::say(err, &line, c);
     2
 }
 
@@ -235,21 +239,56 @@ pub fn say_stopped(err: i32, subcommand: u8, position: u64, refusal: u32) -> u8 
     1
 }
 
-// Says what the system says of a name.
-pub fn say_error(err: i32, subcommand: u8, name: &[u8]) -> u8 {
-    let mut line = [0u8; 32];
+// What the system says of an error.
+#[derive(Drop)]
+struct Told {
+    text: [u8; 128],
+    size: usize,
+}
+
+impl fmt::Write for Told {
+    fn write_str(&mut self, s: &str) -> fmt::Result {
+        self.size = text::put(&mut self.text, self.size, s.as_bytes());
+        Ok(())
+    }
+}
+
+// Puts what the system says of the error of a number, without the number, which stands in brackets behind it.
+fn put_told(out: &mut [u8], at: usize, number: i32) -> usize {
+    let mut told = Told {
+        text: [0; 128],
+        size: 0,
+    };
+    let _ = told.write(Error::from_raw_os_error(number));
+    let said = text::first(&told.text, told.size);
+    let end = text::find(said, 0, said.len(), b'(');
+    text::put(out, at, text::first(said, end.saturating_sub(1)))
+}
+
+// Says what the system says of a name: the error of a number. That part always goes to standard error.
+pub fn say_error(err: i32, subcommand: u8, name: &[u8], number: i32) -> u8 {
+    let mut line = [0u8; 256];
     let n = put_start(&mut line, subcommand);
+    text::say(err, &line, n);
     let plain = plain_word(name);
     let letters = plain.text;
-    text::flush(err, &line, n);
-    os::fail(text::first(&letters, plain.size));
+    let a = text::put(&mut line, 0, text::first(&letters, plain.size));
+    let b = text::put(&mut line, a, b": ");
+    let c = put_told(&mut line, b, number);
+    let d = text::put_byte(&mut line, c, b'\n');
+    text::say(text::ERR, &line, d);
     2
 }
 
+// Says that standard output does not take what is printed.
+pub fn say_unwritten(err: i32, subcommand: u8, number: i32) -> u8 {
+    say_error(err, subcommand, b"cannot write", number)
+}
+
 // Ends what a subcommand prints: writes the first n bytes of a page. Status 2 where they cannot be written.
-pub fn finish(err: i32, subcommand: u8, page: &[u8], n: usize, status: u8) -> u8 {
-    if text::flush(libc::STDOUT_FILENO, page, n) {
-        return status;
+pub fn finish<R: Print>(rt: &R, err: i32, subcommand: u8, page: &[u8], n: usize, status: u8) -> u8 {
+    match text::flush(rt, page, n) {
+        Ok(()) => status,
+        Err(e) => say_unwritten(err, subcommand, text::number_of(&e)),
     }
-    say_error(err, subcommand, b"cannot write")
 }

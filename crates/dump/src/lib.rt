@@ -3,6 +3,7 @@
 
 mod walk;
 
+use std::rt::Files;
 use walk::{Manner, Run, Stop};
 
 // Appends the last line of a capture that ended, or that was refused.
@@ -21,37 +22,53 @@ fn put_end(out: &mut [u8], manner: Manner, run: Run, refusal: u32) -> usize {
 }
 
 // Ends a listing with its last line. Answers the status.
-fn finish(out: &mut [u8], manner: Manner, run: Run, refusal: u32, err: i32) -> u8 {
+fn finish<R: Print>(
+    rt: &R,
+    out: &mut [u8],
+    manner: Manner,
+    run: Run,
+    refusal: u32,
+    err: i32,
+) -> u8 {
     let n = put_end(out, manner, run, refusal);
     let status = if refusal == 0 { 0 } else { 1 };
-    complaint::finish(err, complaint::DUMP, out, n, status)
+    complaint::finish(rt, err, complaint::DUMP, out, n, status)
 }
 
 // Says why a listing has no last line, or ends it.
-fn conclude(out: &mut [u8], manner: Manner, run: Run, name: &[u8], err: i32) -> u8 {
+fn conclude<R: Print>(
+    rt: &R,
+    out: &mut [u8],
+    manner: Manner,
+    run: Run,
+    name: &[u8],
+    err: i32,
+) -> u8 {
     let stop = run.stop;
     match stop {
-        Stop::Ended => finish(out, manner, run, 0, err),
-        Stop::Refused(refusal) => finish(out, manner, run, refusal, err),
-        Stop::Unwritten => complaint::say_error(err, complaint::DUMP, b"cannot write"),
-        _ => complaint::say_error(err, complaint::DUMP, name),
+        Stop::Ended => finish(rt, out, manner, run, 0, err),
+        Stop::Refused(refusal) => finish(rt, out, manner, run, refusal, err),
+        Stop::Unwritten(number) => complaint::say_unwritten(err, complaint::DUMP, number),
+        Stop::Unread(number) => complaint::say_error(err, complaint::DUMP, name, number),
+        Stop::Going => complaint::say_error(err, complaint::DUMP, name, text::FAILED),
     }
 }
 
 // Lists a file.
-fn list_file(name: &[u8], manner: Manner, err: i32) -> u8 {
+fn list_file<R: Files + Input + Print>(rt: &R, name: &[u8], manner: Manner, err: i32) -> u8 {
     let mut page = io::large_buffer();
     let book = words::book();
-    let fd = options::open_file(name);
-    if fd < 0 {
-        return complaint::say_error(err, complaint::DUMP, name);
+    match options::open_file(rt, name) {
+        Ok(mut input) => {
+            let run = walk::list(rt, &mut input, &mut page, &book, manner);
+            conclude(rt, &mut page, manner, run, name, err)
+        }
+        Err(number) => complaint::say_error(err, complaint::DUMP, name, number),
     }
-    let run = walk::list(fd, &mut page, &book, manner);
-    conclude(&mut page, manner, run, name, err)
 }
 
 // The subcommand, on the words behind its name. Answers its status.
-pub fn dump_file(line: &[u8], err: i32) -> u8 {
+pub fn dump_file<R: Files + Input + Print>(rt: &R, line: &[u8], err: i32) -> u8 {
     let o = options::options_of(line, complaint::DUMP);
     if o.wrong != complaint::NOTHING {
         return complaint::say_use(err, complaint::DUMP, o.wrong);
@@ -60,5 +77,5 @@ pub fn dump_file(line: &[u8], err: i32) -> u8 {
         json: o.json,
         quiet: o.quiet,
     };
-    list_file(text::part(line, o.from, o.to), manner, err)
+    list_file(rt, text::part(line, o.from, o.to), manner, err)
 }

@@ -1,7 +1,7 @@
 // A raw capture read from its file and listed, chunk by chunk.
 use capture::{Next, Phase, Reading, Step};
-use libc::STDOUT_FILENO;
 use listing::{Piece, Tally};
+use std::io::Read;
 use telegram::Refusal;
 
 // What is printed: text or JSON, and with `quiet` the last line alone.
@@ -11,14 +11,15 @@ pub struct Manner {
     pub quiet: bool,
 }
 
-// Why a run stopped. A capture is refused as `telegram::refusal_value` has it.
+// Why a run stopped. A capture is refused as `telegram::refusal_value` has it; what could not be read or written has the number of
+// the error.
 #[derive(Clone, Copy)]
 pub enum Stop {
     Going,
     Ended,
     Refused(u32),
-    Unread,
-    Unwritten,
+    Unread(i32),
+    Unwritten(i32),
 }
 
 // How far a run has come: bytes used of the page and of the chunk, what the reading of the capture remembers, the telegrams so far.
@@ -52,21 +53,23 @@ fn stopped(run: Run, stop: Stop) -> Run {
 }
 
 // Writes the page.
-fn flush_page(out: &[u8], run: Run) -> Run {
-    if text::flush(STDOUT_FILENO, out, run.at) {
-        let mut next = run;
-        next.at = 0;
-        return next;
+fn flush_page<R: Print>(rt: &R, out: &[u8], run: Run) -> Run {
+    match text::flush(rt, out, run.at) {
+        Ok(()) => {
+            let mut next = run;
+            next.at = 0;
+            next
+        }
+        Err(e) => stopped(run, Stop::Unwritten(text::number_of(&e))),
     }
-    stopped(run, Stop::Unwritten)
 }
 
 // Writes the page where less than 4 KiB of it are free, more than a telegram takes.
-fn flush_full(out: &[u8], run: Run) -> Run {
+fn flush_full<R: Print>(rt: &R, out: &[u8], run: Run) -> Run {
     if run.at < 61440 {
         return run;
     }
-    flush_page(out, run)
+    flush_page(rt, out, run)
 }
 
 // The run behind what a call read.
@@ -79,8 +82,15 @@ fn advanced(run: Run, next: Next) -> Run {
 }
 
 // Lists a telegram.
-fn list_telegram(out: &mut [u8], book: &[u8], manner: Manner, p: Piece, before: Run) -> Run {
-    let run = flush_full(out, before);
+fn list_telegram<R: Print>(
+    rt: &R,
+    out: &mut [u8],
+    book: &[u8],
+    manner: Manner,
+    p: Piece,
+    before: Run,
+) -> Run {
+    let run = flush_full(rt, out, before);
     let v = listing::judged(p);
     let before_it = run.tally;
     let tally = listing::counted(before_it, v);
@@ -94,7 +104,7 @@ fn list_telegram(out: &mut [u8], book: &[u8], manner: Manner, p: Piece, before: 
 fn piece_of(position: u64, before: &[u8], rest: &[u8]) -> Piece {
     let mut bytes = [0u8; 16];
     let n = text::put(&mut bytes, 0, before);
-    let more = text::first(rest, 12.wrapping_sub(n));
+    let more = text::first(rest, 12usize.wrapping_sub(n));
     let count = text::put(&mut bytes, n, more);
     Piece {
         position,
@@ -125,7 +135,8 @@ fn put_refused(
 }
 
 // Lists a refused telegram, and stops.
-fn list_refused(
+fn list_refused<R: Print>(
+    rt: &R,
     out: &mut [u8],
     book: &[u8],
     manner: Manner,
@@ -133,7 +144,7 @@ fn list_refused(
     e: Refusal,
     before: Run,
 ) -> Run {
-    let mut run = flush_full(out, before);
+    let mut run = flush_full(rt, out, before);
     let refusal = telegram::refusal_value(e);
     run.at = put_refused(out, run.at, book, manner, there, refusal);
     if !is_going(run) {
@@ -143,7 +154,15 @@ fn list_refused(
 }
 
 // Lists what a call read of a chunk from `used` on.
-fn list_step(s: &[u8], out: &mut [u8], book: &[u8], manner: Manner, run: Run, next: Next) -> Run {
+fn list_step<R: Print>(
+    rt: &R,
+    s: &[u8],
+    out: &mut [u8],
+    book: &[u8],
+    manner: Manner,
+    run: Run,
+    next: Next,
+) -> Run {
     let step = next.step;
     let bytes = next.bytes;
     let reading = run.reading;
@@ -151,30 +170,44 @@ fn list_step(s: &[u8], out: &mut [u8], book: &[u8], manner: Manner, run: Run, ne
         Step::Telegram(t) => {
             let n = t.size.wrapping_add(4);
             let p = piece_of(reading.position, text::first(&bytes, n), b"");
-            list_telegram(out, book, manner, p, run)
+            list_telegram(rt, out, book, manner, p, run)
         }
         Step::Refused(e) => {
             let there = refused_piece(reading, text::from(s, run.used));
-            list_refused(out, book, manner, there, e, run)
+            list_refused(rt, out, book, manner, there, e, run)
         }
         _ => run,
     }
 }
 
 // Lists the next telegram of a chunk.
-fn list_next(s: &[u8], out: &mut [u8], book: &[u8], manner: Manner, run: Run) -> Run {
+fn list_next<R: Print>(
+    rt: &R,
+    s: &[u8],
+    out: &mut [u8],
+    book: &[u8],
+    manner: Manner,
+    run: Run,
+) -> Run {
     let reading = run.reading;
     let next = capture::next_at(s, reading, run.used);
-    advanced(list_step(s, out, book, manner, run, next), next)
+    advanced(list_step(rt, s, out, book, manner, run, next), next)
 }
 
 // Lists each telegram of a chunk. Each takes a byte of it at least.
-fn list_chunk(s: &[u8], out: &mut [u8], book: &[u8], manner: Manner, before: Run) -> Run {
+fn list_chunk<R: Print>(
+    rt: &R,
+    s: &[u8],
+    out: &mut [u8],
+    book: &[u8],
+    manner: Manner,
+    before: Run,
+) -> Run {
     let mut run = before;
     run.used = 0;
     let mut left = s.len();
     while left > 0 {
-        run = list_next(s, out, book, manner, run);
+        run = list_next(rt, s, out, book, manner, run);
         if bits::or(run.used == s.len(), !is_going(run)) {
             return run;
         }
@@ -201,37 +234,50 @@ fn count_chunk(s: &[u8], run: Run) -> Run {
 }
 
 // The end of the file, which is the end of the capture.
-fn list_end(out: &mut [u8], book: &[u8], manner: Manner, run: Run) -> Run {
+fn list_end<R: Print>(rt: &R, out: &mut [u8], book: &[u8], manner: Manner, run: Run) -> Run {
     let reading = run.reading;
     let closing = capture::end_run(reading);
     let step = closing.step;
     match step {
         Step::Refused(e) => {
             let there = refused_piece(reading, b"");
-            list_refused(out, book, manner, there, e, run)
+            list_refused(rt, out, book, manner, there, e, run)
         }
         _ => stopped(run, Stop::Ended),
     }
 }
 
 // One turn: reads once, and lists the telegrams that are whole.
-fn turn(fd: i32, buf: &mut [u8], out: &mut [u8], book: &[u8], manner: Manner, run: Run) -> Run {
-    let got = libc::read(fd, buf);
-    if got < 0 {
-        return stopped(run, Stop::Unread);
+fn turn<R: Print, I: Read>(
+    rt: &R,
+    input: &mut I,
+    buf: &mut [u8],
+    out: &mut [u8],
+    book: &[u8],
+    manner: Manner,
+    run: Run,
+) -> Run {
+    match input.read(buf) {
+        Err(e) => stopped(run, Stop::Unread(text::number_of(&e))),
+        Ok(0) => list_end(rt, out, book, manner, run),
+        Ok(n) => {
+            if manner.quiet {
+                return count_chunk(text::first(buf, n), run);
+            }
+            list_chunk(rt, text::first(buf, n), out, book, manner, run)
+        }
     }
-    if got == 0 {
-        return list_end(out, book, manner, run);
-    }
-    let n = io::count(got, buf);
-    if manner.quiet {
-        return count_chunk(text::first(buf, n), run);
-    }
-    list_chunk(text::first(buf, n), out, book, manner, run)
 }
 
 // Turns until the file ends or the run stops; the page is written after each.
-fn list_turns(fd: i32, buf: &mut [u8], out: &mut [u8], book: &[u8], manner: Manner) -> Run {
+fn list_turns<R: Print, I: Read>(
+    rt: &R,
+    input: &mut I,
+    buf: &mut [u8],
+    out: &mut [u8],
+    book: &[u8],
+    manner: Manner,
+) -> Run {
     let mut run = Run {
         at: 0,
         used: 0,
@@ -241,8 +287,8 @@ fn list_turns(fd: i32, buf: &mut [u8], out: &mut [u8], book: &[u8], manner: Mann
     };
     let mut turns = u64::MAX;
     while turns > 0 {
-        run = turn(fd, buf, out, book, manner, run);
-        run = flush_page(out, run);
+        run = turn(rt, input, buf, out, book, manner, run);
+        run = flush_page(rt, out, run);
         if !is_going(run) {
             return run;
         }
@@ -251,8 +297,14 @@ fn list_turns(fd: i32, buf: &mut [u8], out: &mut [u8], book: &[u8], manner: Mann
     run
 }
 
-// Lists a capture, from a file that is open, up to its last line. `book` is `words::book`.
-pub fn list(fd: i32, out: &mut [u8], book: &[u8], manner: Manner) -> Run {
+// Lists a capture, from an input that is open, up to its last line. `book` is `words::book`.
+pub fn list<R: Print, I: Read>(
+    rt: &R,
+    input: &mut I,
+    out: &mut [u8],
+    book: &[u8],
+    manner: Manner,
+) -> Run {
     let mut buf = io::large_buffer();
-    list_turns(fd, &mut buf, out, book, manner)
+    list_turns(rt, input, &mut buf, out, book, manner)
 }

@@ -21,18 +21,18 @@ fn put_page(out: &mut [u8], book: &[u8], s: &[u8], n: usize) -> usize {
 }
 
 // Prints the table and the verdict of n bytes. More than 16 are judged by the first 16: see the script of a replay.
-fn show(bytes: [u8; 16], n: usize, err: i32) -> u8 {
+fn show<R: Print>(rt: &R, bytes: [u8; 16], n: usize, err: i32) -> u8 {
     let mut page = io::buffer();
     let book = words::book();
     let s = text::first(&bytes, n);
     let v = verdict::judge(s);
     let a = put_page(&mut page, &book, s, n);
     let k = below::put_verdict(&mut page, a, &book, v, bytes, n);
-    complaint::finish(err, complaint::FIELDS, &page, k, below::is_refused(v))
+    complaint::finish(rt, err, complaint::FIELDS, &page, k, below::is_refused(v))
 }
 
 // The subcommand, on the words behind its name. Answers its status.
-pub fn show_fields(arguments: &[u8], err: i32) -> u8 {
+pub fn show_fields<R: Print>(rt: &R, arguments: &[u8], err: i32) -> u8 {
     let mut space = io::buffer();
     let mut bytes = [0u8; 16];
     let n = text::reading::put_arguments(&mut space, 0, arguments);
@@ -43,5 +43,5 @@ pub fn show_fields(arguments: &[u8], err: i32) -> u8 {
     if n == 0 {
         return complaint::say(err, complaint::FIELDS, complaint::TELEGRAM_EXPECTED);
     }
-    show(bytes, h.count, err)
+    show(rt, bytes, h.count, err)
 }

@@ -257,6 +257,7 @@ fn status_of(l: Lamp) -> u8
 // What a lamp that obeys a command answers: the register as it stands, to an acknowledged command temperature and status as they will
 // stand after the effect, of which only a GO command changes one. The status byte is made before the match: there the compiler sees that
 // it is the one which was loaded.
+#[tactic(auto, unfolding(rules::specs::Lamp::told_plain, rules::specs::Lamp::changed_plain, table::specs::Table::plain_number, table::specs::Table::acknowledged))]
 fn told_bytes(n: u8, l: Lamp) -> Payload
     ensures { (d : DefaultsType) (f : List ℕ) → result ≡ padded (told d (numbered n f) l) }
 {
@@ -280,6 +281,7 @@ fn told_bytes(n: u8, l: Lamp) -> Payload
 }
 
 // What a lamp that a command reaches answers, whatever the defaults and the command's fields are.
+#[tactic(auto, unfolding(rules::specs::Lamp::answered))]
 pub fn answer_bytes(n: u8, l: Lamp) -> Payload
     ensures { (d : DefaultsType) (f : List ℕ) → result ≡ padded (answered d (numbered n f) l) }
 {

@@ -132,7 +132,7 @@ fn sensor_words(line: &[u8], place: u32, at: usize) -> Line {
 // The sensor report that a line without comment says.
 fn sensor_of(line: &[u8]) -> Line {
     let name = text::reading::word_at(line, 0);
-    if !check::same(text::part(line, name.from, name.to), b"sensor") {
+    if text::part(line, name.from, name.to) != b"sensor".as_slice() {
         return without_bytes(Kind::Malformed, 0);
     }
     let first = text::reading::word_at(line, name.to);
@@ -149,7 +149,7 @@ fn line_of(line: &[u8]) -> Line {
         return without_bytes(Kind::Malformed, 0);
     }
     let mut bytes = [0u8; 16];
-    let code = text::first(line, bytes::scan::find(line, 0, line.len(), b'#'));
+    let code = text::first(line, text::find(line, 0, line.len(), b'#'));
     let h = text::reading::hex_at(code, 0, &mut bytes);
     if h.at < code.len() {
         return sensor_of(code);
@@ -191,7 +191,7 @@ fn any_at(s: &[u8], at: usize, last: bool) -> Line {
     if n < at {
         return without_bytes(Kind::Open, at);
     }
-    let end = bytes::scan::find(s, at, n, b'\n');
+    let end = text::find(s, at, n, b'\n');
     if bits::and(end == n, !last) {
         return without_bytes(Kind::Open, at);
     }

@@ -1,6 +1,9 @@
 // The options of replay, board and dump: the words behind the subcommand's name, with a byte 0 behind each.
 #![tactic(auto)]
 
+use std::fs::File;
+use std::io::{Error, Read};
+use std::rt::Files;
 use text::reading::Number;
 
 // What the options said. `next` is what the next word is: 0 an option or the file, 1 lamps, 2 setup, 3 to 5 a threshold. `wrong` is the
@@ -216,17 +219,42 @@ pub fn options_of(line: &[u8], subcommand: u8) -> Options {
     let mut o = no_words();
     let mut at = 0;
     while at < n {
-        let end = bytes::scan::find(line, at, n, 0);
+        let end = text::find(line, at, n, 0);
         o = with_word(o, subcommand, &line[at..end], at, end);
         at = end + 1;
     }
     with_wrong(o, missing(o, subcommand))
 }
 
-// Opens the file that they name; - is standard input.
-pub fn open_file(name: &[u8]) -> i32 {
-    if check::same(name, b"-") {
-        return libc::STDIN_FILENO;
+// What is read: a file that was opened, or standard input.
+#[derive(Drop)]
+pub enum Opened<F, S> {
+    Named(F),
+    Standard(S),
+}
+
+impl<F: Read, S: Read> Read for Opened<F, S> {
+    fn read(&mut self, buf: &mut [u8]) -> Result<usize, Error> {
+        match self {
+            Opened::Named(file) => file.read(buf),
+            Opened::Standard(input) => input.read(buf),
+        }
     }
-    os::open_read(name)
+}
+
+// The system's number for bytes that are no text: a name has to be UTF-8.
+const NO_TEXT: i32 = 84;
+
+// Opens the file that they name, or answers the number of the error; - is standard input.
+pub fn open_file<R: Files + Input>(rt: &R, name: &[u8]) -> Result<Opened<R::File, R::Reader>, i32> {
+    if name == b"-".as_slice() {
+        return Ok(Opened::Standard(rt.reader()));
+    }
+    let Ok(path) = str::from_utf8(name) else {
+        return Err(NO_TEXT);
+    };
+    match File::open(rt, path) {
+        Ok(file) => Ok(Opened::Named(file)),
+        Err(e) => Err(text::number_of(&e)),
+    }
 }

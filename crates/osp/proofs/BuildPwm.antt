@@ -1,38 +1,19 @@
--- SETPWM from its fields: a law for each answer.
+-- SETPWM from its fields: the tests that it passes, and its command.
 -- Assumes nothing.
 use mathlib.Core.Path.{◌≡◌}
-use Prim.Native.Nat.{ℕ, ◌/◌, ◌%◌, ◌≤◌, ◌<◌}
-use borrow.Author.Tests.{lt-ltb, le-ltb}
-use Rattle.telegram.specs.Numbers.{refused}
+use Prim.Native.Nat.{ℕ, ◌/◌, ◌%◌, ◌≤◌}
+use borrow.Author.Tests.{le-ltb}
 use Rattle.command.specs.Fields.{mode_of}
 use Rattle.command.specs.Commands.{message_of}
 use Rattle.command.specs.declared.Pwm.{Pwm}
 use Rattle.command.specs.declared.Command.TheVariants.{SetPwm}
 use Rattle.osp.specs.Interface.{building_directed, pwm_message, osp_build_pwm}
 
-module _ (k v m r g b room : ℕ) where
-  pub modes-out : 7 < m → osp_build_pwm k v m r g b room ≡ refused 10
-  unfolding osp_build_pwm
-  modes-out h = simp (lt-ltb _ _ h)
-
-  module _ (h₁ : m ≤ 7) where
-    pub red-out : 32767 < r → osp_build_pwm k v m r g b room ≡ refused 10
-    unfolding osp_build_pwm
-    red-out h = simp (le-ltb _ _ h₁, lt-ltb _ _ h)
-
-    module _ (h₂ : r ≤ 32767) where
-      pub green-out : 32767 < g → osp_build_pwm k v m r g b room ≡ refused 10
-      unfolding osp_build_pwm
-      green-out h = simp (le-ltb _ _ h₁, le-ltb _ _ h₂, lt-ltb _ _ h)
-
-      module _ (h₃ : g ≤ 32767) where
-        pub blue-out : 32767 < b → osp_build_pwm k v m r g b room ≡ refused 10
-        unfolding osp_build_pwm
-        blue-out h = simp (le-ltb _ _ h₁, le-ltb _ _ h₂, le-ltb _ _ h₃, lt-ltb _ _ h)
-
-        pub pwm-directed : b ≤ 32767 → osp_build_pwm k v m r g b room ≡ building_directed (pwm_message m r g b) k v room
-        unfolding osp_build_pwm
-        pwm-directed h = simp (le-ltb _ _ h₁, le-ltb _ _ h₂, le-ltb _ _ h₃, le-ltb _ _ h)
+-- Past the tests what is left is the cast and the room.
+pub pwm-directed : (k v m r g b room : ℕ) → m ≤ 7 → r ≤ 32767 → g ≤ 32767 → b ≤ 32767
+    → osp_build_pwm k v m r g b room ≡ building_directed (pwm_message m r g b) k v room
+unfolding osp_build_pwm
+pwm-directed k v m r g b room h₁ h₂ h₃ h₄ = simp (le-ltb _ _ h₁, le-ltb _ _ h₂, le-ltb _ _ h₃, le-ltb _ _ h₄)
 
 -- The command that the code makes is the message of the numbers.
 pub pwm-message : (m r g b : ℕ) (x y z : Pwm) → (mode_of x ≡ m / 4 % 2) × (x.duty ≡ r) → (mode_of y ≡ m / 2 % 2) × (y.duty ≡ g)

@@ -1,5 +1,4 @@
 pub mod Giving
-pub mod Directing
 pub mod BuildPwm
 pub mod ChainCalls
 pub mod AsRun

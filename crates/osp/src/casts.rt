@@ -30,6 +30,7 @@ pub(crate) fn value_of(cast: Cast) -> u16
 }
 
 // A cast from its two numbers.
+#[tactic(auto, unfolding(crate::specs::Interface::directing))]
 pub(crate) fn cast_from(kind: u32, value: u32) -> Directed
     ensures { directed_as result ≡ directing kind value }
 {

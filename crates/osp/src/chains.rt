@@ -11,16 +11,14 @@ use chain::LampRead;
 use rules::{Defaults, Place, Thresholds};
 
 // The length of the record of a chain.
-#[unsafe(no_mangle)]
-pub extern "C" fn osp_record_len(count: u32) -> u32
+pub fn osp_record_len(count: u32) -> u32
     ensures { result ≡ osp_record_len count }
 {
     chain::record_len(count as usize) as u32
 }
 
 // Makes a chain: 11, then 9.
-#[unsafe(no_mangle)]
-pub extern "C" fn osp_make(mem: &mut [u8], count: u32, setup: u8, t0: u8, t1: u8, t2: u8) -> u32
+pub fn osp_make(mem: &mut [u8], count: u32, setup: u8, t0: u8, t1: u8, t2: u8) -> u32
     ensures value { result ≡ returned_bare (made mem.old count (defaults_from setup t0 t1 t2)) }
     ensures mem_after { mem.new ≡ held mem.old (made mem.old count (defaults_from setup t0 t1 t2)) }
 {
@@ -34,8 +32,7 @@ pub extern "C" fn osp_make(mem: &mut [u8], count: u32, setup: u8, t0: u8, t1: u8
 }
 
 // Delivers a telegram: 9, 11, 1 to 8, 12.
-#[unsafe(no_mangle)]
-pub extern "C" fn osp_deliver(mem: &mut [u8], s: &[u8], out: &mut [u8]) -> u32
+pub fn osp_deliver(mem: &mut [u8], s: &[u8], out: &mut [u8]) -> u32
     ensures value { result ≡ returned (delivered mem.old s.now (length out.old)).outcome }
     ensures mem_after { mem.new ≡ (delivered mem.old s.now (length out.old)).memory }
     ensures out_after { out.new ≡ leaves (delivered mem.old s.now (length out.old)).outcome out.old }
@@ -44,8 +41,7 @@ pub extern "C" fn osp_deliver(mem: &mut [u8], s: &[u8], out: &mut [u8]) -> u32
 }
 
 // A sensor report: 11, 13, 10.
-#[unsafe(no_mangle)]
-pub extern "C" fn osp_sense(mem: &mut [u8], place: u32, temperature: u8, faults: u32) -> u32
+pub fn osp_sense(mem: &mut [u8], place: u32, temperature: u8, faults: u32) -> u32
     ensures value { result ≡ returned_bare (sensed_in mem.old place temperature faults) }
     ensures mem_after { mem.new ≡ held mem.old (sensed_in mem.old place temperature faults) }
 {
@@ -53,8 +49,7 @@ pub extern "C" fn osp_sense(mem: &mut [u8], place: u32, temperature: u8, faults:
 }
 
 // Reads a lamp out: 11, 13, then 9.
-#[unsafe(no_mangle)]
-pub extern "C" fn osp_lamp(mem: &[u8], place: u32, out: &mut [u8]) -> u32
+pub fn osp_lamp(mem: &[u8], place: u32, out: &mut [u8]) -> u32
     ensures value { result ≡ returned (osp_lamp mem.now place (length out.old)) }
     ensures out_after { out.new ≡ leaves (osp_lamp mem.now place (length out.old)) out.old }
 {

@@ -1,4 +1,4 @@
-// The C interface: thin exported functions over numbers and byte slices. include/osp.h has their declarations.
+// The C interface: thin functions over numbers and byte slices. The crate `osp_c` exports them to C.
 #![tactic(auto)]
 
 mod casts;

@@ -4,13 +4,7 @@ ghost use Rattle.telegram.specs.Numbers.{leaves};
 ghost use Rattle.reader.specs.Interface.{returned, reader_next, reader_end, reader_position};
 
 // The next telegram of a chunk: 11, the reader's own refusals, then 9.
-#[unsafe(no_mangle)]
-pub extern "C" fn osp_reader_next(
-    reader: &mut [u8],
-    chunk: &[u8],
-    at: &mut usize,
-    out: &mut [u8],
-) -> u32
+pub fn osp_reader_next(reader: &mut [u8], chunk: &[u8], at: &mut usize, out: &mut [u8]) -> u32
     ensures value { result ≡ returned (reader_next reader.old chunk.now at.old (length out.old)).outcome }
     ensures reader_after { reader.new ≡ (reader_next reader.old chunk.now at.old (length out.old)).memory }
     ensures at_after { at.new ≡ (reader_next reader.old chunk.now at.old (length out.old)).at }
@@ -20,8 +14,7 @@ pub extern "C" fn osp_reader_next(
 }
 
 // The end of the run: 11, then the reader's own refusals.
-#[unsafe(no_mangle)]
-pub extern "C" fn osp_reader_end(reader: &mut [u8]) -> u32
+pub fn osp_reader_end(reader: &mut [u8]) -> u32
     ensures value { result ≡ returned (reader_end reader.old).outcome }
     ensures reader_after { reader.new ≡ (reader_end reader.old).memory }
 {
@@ -29,8 +22,7 @@ pub extern "C" fn osp_reader_end(reader: &mut [u8]) -> u32
 }
 
 // The position; 0 where the other two give 11.
-#[unsafe(no_mangle)]
-pub extern "C" fn osp_reader_position(reader: &[u8]) -> u64
+pub fn osp_reader_position(reader: &[u8]) -> u64
     ensures { result ≡ reader_position reader.now }
 {
     reader::position_of(reader)

@@ -17,16 +17,14 @@ use command::{Command, Composed, Dissection, Pwm};
 use telegram::{Address, Read};
 
 // The checksum of the bytes of `s`.
-#[unsafe(no_mangle)]
-pub extern "C" fn osp_checksum(s: &[u8]) -> u8
+pub fn osp_checksum(s: &[u8]) -> u8
     ensures { result ≡ checksum_of s.now }
 {
     checksum::checksum(s)
 }
 
 // The telegram reader: 1 to 5, then 9.
-#[unsafe(no_mangle)]
-pub extern "C" fn osp_read(s: &[u8], out: &mut [u8]) -> u32
+pub fn osp_read(s: &[u8], out: &mut [u8]) -> u32
     ensures value { result ≡ returned (osp_read s.now (length out.old)) }
     ensures out_after { out.new ≡ leaves (osp_read s.now (length out.old)) out.old }
 {
@@ -38,8 +36,7 @@ pub extern "C" fn osp_read(s: &[u8], out: &mut [u8]) -> u32
 }
 
 // The command dissector: 1 to 8, then 9.
-#[unsafe(no_mangle)]
-pub extern "C" fn osp_dissect(s: &[u8], out: &mut [u8]) -> u32
+pub fn osp_dissect(s: &[u8], out: &mut [u8]) -> u32
     ensures value { result ≡ returned (osp_dissect s.now (length out.old)) }
     ensures out_after { out.new ≡ leaves (osp_dissect s.now (length out.old)) out.old }
 {
@@ -51,8 +48,7 @@ pub extern "C" fn osp_dissect(s: &[u8], out: &mut [u8]) -> u32
 }
 
 // The answer dissector: 1 to 8, then 9.
-#[unsafe(no_mangle)]
-pub extern "C" fn osp_dissect_answer(s: &[u8], out: &mut [u8]) -> u32
+pub fn osp_dissect_answer(s: &[u8], out: &mut [u8]) -> u32
     ensures value { result ≡ returned (osp_dissect_answer s.now (length out.old)) }
     ensures out_after { out.new ≡ leaves (osp_dissect_answer s.now (length out.old)) out.old }
 {
@@ -64,8 +60,8 @@ pub extern "C" fn osp_dissect_answer(s: &[u8], out: &mut [u8]) -> u32
 }
 
 // The raw builder: 10, then 9.
-#[unsafe(no_mangle)]
-pub extern "C" fn osp_build(address: u32, command: u32, payload: &[u8], out: &mut [u8]) -> u32
+#[tactic(auto, unfolding(telegram::specs::Telegram::building))]
+pub fn osp_build(address: u32, command: u32, payload: &[u8], out: &mut [u8]) -> u32
     ensures value { result ≡ returned (building address command payload.now (length out.old)) }
     ensures out_after { out.new ≡ leaves (building address command payload.now (length out.old)) out.old }
 {
@@ -93,14 +89,7 @@ fn build_directed(c: Command, kind: u32, value: u32, out: &mut [u8]) -> u32
 }
 
 // The command builder, of a command's number, its cast in two numbers and the bytes of its payload: 6, 8, then 10, 7, 9.
-#[unsafe(no_mangle)]
-pub extern "C" fn osp_build_command(
-    command: u32,
-    cast: u32,
-    value: u32,
-    payload: &[u8],
-    out: &mut [u8],
-) -> u32
+pub fn osp_build_command(command: u32, cast: u32, value: u32, payload: &[u8], out: &mut [u8]) -> u32
     ensures value { result ≡ returned (osp_build_command command cast value payload.now (length out.old)) }
     ensures out_after { out.new ≡ leaves (osp_build_command command cast value payload.now (length out.old)) out.old }
 {
@@ -126,8 +115,8 @@ fn pwm_of_mode(mode: u32, duty: u32) -> Pwm
 }
 
 // SETPWM from its fields, `modes` a sum of 4 for red, 2 for green and 1 for blue in daytime mode: 10, then 9.
-#[unsafe(no_mangle)]
-pub extern "C" fn osp_build_pwm(
+#[tactic(auto, unfolding(crate::specs::Interface::osp_build_pwm))]
+pub fn osp_build_pwm(
     cast: u32,
     value: u32,
     modes: u32,

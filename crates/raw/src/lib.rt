@@ -5,6 +5,7 @@
 use capture::{Phase, Reading};
 use lines::{Holds, Style};
 use script::{Run, Stop};
+use std::io::Read;
 
 // A capture that was done: the run, and the refusal of the capture itself behind that many bytes, as `telegram::refusal_value` has it.
 #[derive(Clone, Copy)]
@@ -30,8 +31,15 @@ fn refusal_of(reading: Reading) -> u32 {
 }
 
 // Ends the run where the capture is refused, and tells it.
-fn tell_refusal(out: &mut [u8], style: Style, before: Run, reading: Reading, book: &[u8]) -> Run {
-    let mut run = script::flush_full(out, before);
+fn tell_refusal<R: Print>(
+    rt: &R,
+    out: &mut [u8],
+    style: Style,
+    before: Run,
+    reading: Reading,
+    book: &[u8],
+) -> Run {
+    let mut run = script::flush_full(rt, out, before);
     run.at = lines::put_stopped(
         out,
         run.at,
@@ -44,7 +52,14 @@ fn tell_refusal(out: &mut [u8], style: Style, before: Run, reading: Reading, boo
 }
 
 // The run ends where the reading does.
-fn settled(out: &mut [u8], style: Style, run: Run, reading: Reading, book: &[u8]) -> Walk {
+fn settled<R: Print>(
+    rt: &R,
+    out: &mut [u8],
+    style: Style,
+    run: Run,
+    reading: Reading,
+    book: &[u8],
+) -> Walk {
     let phase = reading.phase;
     match phase {
         Phase::Open => Walk { run, reading },
@@ -53,7 +68,7 @@ fn settled(out: &mut [u8], style: Style, run: Run, reading: Reading, book: &[u8]
             reading,
         },
         Phase::Stopped(_) => Walk {
-            run: tell_refusal(out, style, run, reading, book),
+            run: tell_refusal(rt, out, style, run, reading, book),
             reading,
         },
     }
@@ -87,7 +102,8 @@ fn read_chunk(s: &[u8], before: Reading) -> Reading {
 
 // Does the telegrams that are whole in the first n bytes of the buffer, of which the first `have` were carried, and carries the rest to its
 // front.
-fn do_chunk(
+fn do_chunk<R: Print>(
+    rt: &R,
     buf: &mut [u8],
     have: usize,
     n: usize,
@@ -102,14 +118,15 @@ fn do_chunk(
     let after = read_chunk(text::part(buf, have, n), before);
     let whole = after.position.wrapping_sub(before.position) as usize;
     let s = text::first(buf, whole);
-    let mut done = script::do_lines(s, Holds::Telegrams, mem, out, style, run, book);
+    let mut done = script::do_lines(rt, s, Holds::Telegrams, mem, out, style, run, book);
     done.used = script::carry(buf, whole, n);
-    settled(out, style, done, after, book)
+    settled(rt, out, style, done, after, book)
 }
 
 // One turn: reads once behind what was carried, and does the telegrams that are whole. The end of the file is that of the capture.
-fn turn(
-    fd: i32,
+fn turn<R: Print, I: Read>(
+    rt: &R,
+    input: &mut I,
     buf: &mut [u8],
     mem: &mut [u8],
     out: &mut [u8],
@@ -120,28 +137,29 @@ fn turn(
     let run = w.run;
     let reading = w.reading;
     let have = run.used;
-    let got = script::read_more(fd, buf, have);
-    if got < 0 {
-        return Walk {
-            run: script::stopped(run, Stop::Unread),
+    match script::read_more(input, buf, have) {
+        Err(e) => Walk {
+            run: script::stopped(run, Stop::Unread(text::number_of(&e))),
             reading,
-        };
+        },
+        Ok(0) => {
+            let closing = capture::end_run(reading);
+            let last = closing.reading;
+            settled(rt, out, style, run, last, book)
+        }
+        Ok(got) => {
+            let n = have.wrapping_add(got);
+            do_chunk(rt, buf, have, n, mem, out, style, w, book)
+        }
     }
-    if got == 0 {
-        let closing = capture::end_run(reading);
-        let last = closing.reading;
-        return settled(out, style, run, last, book);
-    }
-    let n = have.wrapping_add(io::count(got, buf));
-    do_chunk(buf, have, n, mem, out, style, w, book)
 }
 
 // The walk with its page written.
-fn flushed(out: &[u8], w: Walk) -> Walk {
+fn flushed<R: Print>(rt: &R, out: &[u8], w: Walk) -> Walk {
     let run = w.run;
     let reading = w.reading;
     Walk {
-        run: script::flush_page(out, run),
+        run: script::flush_page(rt, out, run),
         reading,
     }
 }
@@ -153,8 +171,9 @@ fn is_going(w: Walk) -> bool {
 }
 
 // Turns until the file ends or the run stops; the page is written after each.
-fn do_turns(
-    fd: i32,
+fn do_turns<R: Print, I: Read>(
+    rt: &R,
+    input: &mut I,
     buf: &mut [u8],
     mem: &mut [u8],
     out: &mut [u8],
@@ -167,8 +186,8 @@ fn do_turns(
     };
     let mut turns = u64::MAX;
     while turns > 0 {
-        w = turn(fd, buf, mem, out, style, w, book);
-        w = flushed(out, w);
+        w = turn(rt, input, buf, mem, out, style, w, book);
+        w = flushed(rt, out, w);
         if !is_going(w) {
             return w;
         }
@@ -177,10 +196,17 @@ fn do_turns(
     w
 }
 
-// Does a capture, from a file that is open. `book` is `words::book`.
-pub fn do_file(fd: i32, mem: &mut [u8], out: &mut [u8], style: Style, book: &[u8]) -> Played {
+// Does a capture, from an input that is open. `book` is `words::book`.
+pub fn do_file<R: Print, I: Read>(
+    rt: &R,
+    input: &mut I,
+    mem: &mut [u8],
+    out: &mut [u8],
+    style: Style,
+    book: &[u8],
+) -> Played {
     let mut buf = io::large_buffer();
-    let w = do_turns(fd, &mut buf, mem, out, style, book);
+    let w = do_turns(rt, input, &mut buf, mem, out, style, book);
     let run = w.run;
     let reading = w.reading;
     Played {

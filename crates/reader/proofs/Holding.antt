@@ -1,6 +1,6 @@
 -- A state that memory holds is kept there without a change; what such a state has, and that it is taken up again after it was kept.
 -- Assumes nothing.
-use Rattle.std.proofs.Common.{◌≡◌, ℕ, zero, suc, ◌+◌, ◌-◌, ◌<◌, ◌≤◌, ◌⊎◌, List, [], ◌∷◌, ◌++◌, length, get_or, take, drop, set, replicate, sym, refl, ap, ◌∙◌, subst, ap₂, inl, inr, ⊎_elim, arith, length-append, length-drop, take-append-drop, length-take-le, drop-cons, drop-drop, take_at}
+use Rattle.std.proofs.Common.{◌≡◌, ℕ, zero, suc, ◌+◌, ◌<◌, ◌≤◌, List, [], ◌∷◌, ◌++◌, length, get_or, take, drop, replicate, sym, refl, ap, ◌∙◌, subst, ap₂, inl, inr, ⊎_elim, arith, length-append, length-drop, take-append-drop, length-take-le, drop-cons, drop-drop, take_at}
 use Rattle.telegram.specs.Numbers.{done, front}
 use Rattle.telegram.specs.Telegram.{Bytes}
 use Rattle.telegram.proofs.Outcomes.{done-one, went_on}
@@ -106,20 +106,6 @@ module _ (s : State) (mem : List ℕ) (e : state_in mem ≡ done s) where
 pub held_stays : HeldStays
 unfolding HeldStays
 held_stays s mem y e = stays s mem e y
-
--- An open state at the position that stands in memory: only its count and its bytes are written.
-pub open_kept : (s : State) (mem : List ℕ) → Bytes mem → 21 ≤ length mem → length s.bytes ≡ 12 → s.standing ≡ going → get_or mem 0 0 ≡ 0
-    → position_in mem ≡ s.position
-    → (take 10 (set mem 1 s.count) ++ take 11 s.bytes) ++ drop 21 (set mem 1 s.count) ≡ holding s mem
-open_kept s mem y h n o z q =
-    let t : List ℕ = take 11 s.bytes in
-    let p = sym (number-back _ _ _ _ _ _ _ _ (y 2) (y 3) (y 4) (y 5) (y 6) (y 7) (y 8) (y 9)) in
-    let d = drop-drop 11 10 mem in
-    ap (λ (l : List ℕ). (take 10 (set l 1 s.count) ++ t) ++ drop 21 (set l 1 s.count)) (sym (all_listed mem 0 10 (omega arith)))
-    ∙ (λ i. ((z i ∷ s.count ∷ p i) ++ t) ++ d i)
-    ∙ ap (λ (x : ℕ). ((0 ∷ s.count ∷ position_bytes x) ++ t) ++ drop 21 mem) q
-    ∙ ap (λ (k : Standing). ((standing_byte k ∷ value_byte k s.count ∷ position_bytes s.position) ++ take 11 (front (checksums_in k) s.bytes)) ++ drop 21 mem) (sym o)
-    ∙ sym (parts s mem (omega (arith, ap (λ (k : Standing). length (front (checksums_in k) s.bytes)) o)))
 
 -- Memory that holds a state which calls take up.
 module _ (s : State) (mem : List ℕ) (k : TakenIn s mem) where

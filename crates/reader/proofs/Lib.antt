@@ -2,7 +2,6 @@ pub mod States
 pub mod Few
 pub mod Exits
 pub mod Positions
-pub mod Sums
 pub mod Back
 pub mod Holding
 pub mod InMemory

@@ -9,6 +9,7 @@ use options::Options;
 use raw::Played;
 use rules::{Defaults, Place, Thresholds};
 use script::{Run, Stop};
+use std::rt::Files;
 
 // The memory of a chain: enough for the largest.
 fn chain_memory() -> [u8; 16384] {
@@ -27,11 +28,11 @@ fn say_stop(err: i32, subcommand: u8, name: &[u8], run: Run) {
         Stop::Malformed => {
             complaint::say_malformed(err, subcommand, run.line);
         }
-        Stop::Unread => {
-            complaint::say_error(err, subcommand, name);
+        Stop::Unread(number) => {
+            complaint::say_error(err, subcommand, name, number);
         }
-        Stop::Unwritten => {
-            complaint::say_error(err, subcommand, b"cannot write");
+        Stop::Unwritten(number) => {
+            complaint::say_unwritten(err, subcommand, number);
         }
         _ => {}
     }
@@ -83,7 +84,8 @@ fn make(mem: &mut [u8], o: Options) -> u32 {
 }
 
 // Opens a script, or a capture, and does it. The page holds what is not written yet.
-fn play(
+fn play<R: Files + Input + Print>(
+    rt: &R,
     name: &[u8],
     is_capture: bool,
     style: Style,
@@ -91,14 +93,15 @@ fn play(
     out: &mut [u8],
     book: &[u8],
 ) -> Played {
-    let fd = options::open_file(name);
-    if fd < 0 {
-        return played(script::run_of(Stop::Unread));
+    match options::open_file(rt, name) {
+        Ok(mut input) => {
+            if is_capture {
+                return raw::do_file(rt, &mut input, mem, out, style, book);
+            }
+            played(script::do_file(rt, &mut input, mem, out, style, book))
+        }
+        Err(number) => played(script::run_of(Stop::Unread(number))),
     }
-    if is_capture {
-        return raw::do_file(fd, mem, out, style, book);
-    }
-    played(script::do_file(fd, mem, out, style, book))
 }
 
 // A lamp of the chain.
@@ -119,7 +122,8 @@ fn put_lamp(
 }
 
 // Prints each lamp of the chain, behind what is on the page.
-fn print_lamps(
+fn print_lamps<R: Print>(
+    rt: &R,
     out: &mut [u8],
     book: &[u8],
     mem: &[u8],
@@ -130,7 +134,7 @@ fn print_lamps(
     let mut run = before;
     let mut place: u16 = 0;
     while place < count {
-        run = script::flush_full(out, run);
+        run = script::flush_full(rt, out, run);
         run.at = put_lamp(out, run.at, book, mem, look, place, count);
         place += 1;
     }
@@ -138,7 +142,8 @@ fn print_lamps(
 }
 
 // Prints the chain after a script, behind an empty line where lines of the script stand above it.
-fn print_chain(
+fn print_chain<R: Print>(
+    rt: &R,
     out: &mut [u8],
     book: &[u8],
     mem: &[u8],
@@ -150,9 +155,9 @@ fn print_chain(
     let mut begun = run;
     let a = text::put(out, 0, empty);
     begun.at = lamps::put_start(out, a, book, look, count);
-    let mut printed = print_lamps(out, book, mem, look, count, begun);
+    let mut printed = print_lamps(rt, out, book, mem, look, count, begun);
     printed.at = lamps::put_end(out, printed.at, book, look, count);
-    script::flush_page(out, printed)
+    script::flush_page(rt, out, printed)
 }
 
 fn style_of(o: Options) -> Style {
@@ -189,7 +194,8 @@ fn above(style: Style) -> usize {
 }
 
 // Prints the chain after a run that came to its end.
-fn print_after(
+fn print_after<R: Print>(
+    rt: &R,
     out: &mut [u8],
     book: &[u8],
     mem: &[u8],
@@ -205,13 +211,21 @@ fn print_after(
     let empty = text::first(b"\n", above(style));
     let count = (lamps % 65536) as u16;
     Played {
-        run: print_chain(out, book, mem, look, empty, count, run),
+        run: print_chain(rt, out, book, mem, look, empty, count, run),
         refusal: p.refusal,
     }
 }
 
 // The script or the capture, then the chain.
-fn show(name: &[u8], o: Options, subcommand: u8, style: Style, look: Look, err: i32) -> Played {
+fn show<R: Files + Input + Print>(
+    rt: &R,
+    name: &[u8],
+    o: Options,
+    subcommand: u8,
+    style: Style,
+    look: Look,
+    err: i32,
+) -> Played {
     let mut mem = chain_memory();
     let mut page = io::large_buffer();
     let book = words::book();
@@ -220,8 +234,8 @@ fn show(name: &[u8], o: Options, subcommand: u8, style: Style, look: Look, err: 
         complaint::say_refusal(err, subcommand, refusal);
         return played(script::run_of(Stop::NoChain));
     }
-    let p = play(name, o.raw, style, &mut mem, &mut page, &book);
-    print_after(&mut page, &book, &mem, style, look, o.lamps, p)
+    let p = play(rt, name, o.raw, style, &mut mem, &mut page, &book);
+    print_after(rt, &mut page, &book, &mem, style, look, o.lamps, p)
 }
 
 // Says what is not printed of a capture of which nothing is printed: that a telegram may be an answer, and where it was refused.
@@ -246,14 +260,14 @@ fn conclude(err: i32, subcommand: u8, name: &[u8], style: Style, p: Played) -> u
 }
 
 // The subcommand replay, on the words behind its name. Answers its status.
-pub fn replay_file(line: &[u8], err: i32) -> u8 {
+pub fn replay_file<R: Files + Input + Print>(rt: &R, line: &[u8], err: i32) -> u8 {
     let o = options::options_of(line, complaint::REPLAY);
     if o.wrong != complaint::NOTHING {
         return complaint::say_use(err, complaint::REPLAY, o.wrong);
     }
     let name = text::part(line, o.from, o.to);
     let style = style_of(o);
-    let p = show(name, o, complaint::REPLAY, style, look_of(o), err);
+    let p = show(rt, name, o, complaint::REPLAY, style, look_of(o), err);
     conclude(err, complaint::REPLAY, name, style, p)
 }
 
@@ -267,13 +281,21 @@ fn refused_by_chain(is_capture: bool) -> u8 {
 }
 
 // The subcommand board. Of refused lines a picture shows nothing, so that they are told.
-pub fn draw(line: &[u8], err: i32) -> u8 {
+pub fn draw<R: Files + Input + Print>(rt: &R, line: &[u8], err: i32) -> u8 {
     let o = options::options_of(line, complaint::BOARD);
     if o.wrong != complaint::NOTHING {
         return complaint::say_use(err, complaint::BOARD, o.wrong);
     }
     let name = text::part(line, o.from, o.to);
-    let p = show(name, o, complaint::BOARD, Style::Silent, Look::Picture, err);
+    let p = show(
+        rt,
+        name,
+        o,
+        complaint::BOARD,
+        Style::Silent,
+        Look::Picture,
+        err,
+    );
     let run = p.run;
     if bits::and(is_ended(run), run.refused) {
         complaint::say(err, complaint::BOARD, refused_by_chain(o.raw));

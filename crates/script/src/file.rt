@@ -1,6 +1,7 @@
 // A script read from its file: chunk by chunk, with what is not a whole line yet carried to the front.
 use crate::{Run, Stop, do_last, do_lines, flush_page, is_going, run_of, stopped};
 use lines::{Holds, Style};
+use std::io::{Error, Read};
 
 // Moves the bytes from an index up to another to the front.
 pub fn carry(buf: &mut [u8], from: usize, to: usize) -> usize {
@@ -24,11 +25,9 @@ fn move_byte(buf: &mut [u8], from: usize, to: usize) {
 }
 
 // Reads once behind the bytes carried.
-pub fn read_more(fd: i32, buf: &mut [u8], have: usize) -> isize {
-    if buf.len() < have {
-        return -1;
-    }
-    libc::read(fd, &mut buf[have..])
+pub fn read_more<I: Read>(input: &mut I, buf: &mut [u8], have: usize) -> Result<usize, Error> {
+    let at = text::within(have, buf);
+    input.read(&mut buf[at..])
 }
 
 // The run with so many bytes carried; more than a line may have are none.
@@ -44,7 +43,8 @@ fn carried(run: Run, left: usize) -> Run {
 }
 
 // Does the lines that are whole in the first n bytes of the buffer and carries the rest to its front. `used` counts what is carried.
-fn do_chunk(
+fn do_chunk<R: Print>(
+    rt: &R,
     buf: &mut [u8],
     n: usize,
     mem: &mut [u8],
@@ -54,14 +54,15 @@ fn do_chunk(
     book: &[u8],
 ) -> Run {
     let s = text::first(buf, n);
-    let next = do_lines(s, Holds::Lines, mem, out, style, run, book);
+    let next = do_lines(rt, s, Holds::Lines, mem, out, style, run, book);
     let left = carry(buf, next.used, n);
     carried(next, left)
 }
 
 // One turn: reads once behind what was carried, and does the lines.
-fn turn(
-    fd: i32,
+fn turn<R: Print, I: Read>(
+    rt: &R,
+    input: &mut I,
     buf: &mut [u8],
     mem: &mut [u8],
     out: &mut [u8],
@@ -70,20 +71,20 @@ fn turn(
     book: &[u8],
 ) -> Run {
     let have = run.used;
-    let got = read_more(fd, buf, have);
-    if got < 0 {
-        return stopped(run, Stop::Unread);
+    match read_more(input, buf, have) {
+        Err(e) => stopped(run, Stop::Unread(text::number_of(&e))),
+        Ok(0) => do_last(rt, text::first(buf, have), mem, out, style, run, book),
+        Ok(got) => {
+            let n = have.wrapping_add(got);
+            do_chunk(rt, buf, n, mem, out, style, run, book)
+        }
     }
-    if got == 0 {
-        return do_last(text::first(buf, have), mem, out, style, run, book);
-    }
-    let n = have.wrapping_add(io::count(got, buf));
-    do_chunk(buf, n, mem, out, style, run, book)
 }
 
 // Turns until the file ends or the run stops; the page is written after each.
-fn do_turns(
-    fd: i32,
+fn do_turns<R: Print, I: Read>(
+    rt: &R,
+    input: &mut I,
     buf: &mut [u8],
     mem: &mut [u8],
     out: &mut [u8],
@@ -93,8 +94,8 @@ fn do_turns(
     let mut run = run_of(Stop::Going);
     let mut turns = u64::MAX;
     while turns > 0 {
-        run = turn(fd, buf, mem, out, style, run, book);
-        run = flush_page(out, run);
+        run = turn(rt, input, buf, mem, out, style, run, book);
+        run = flush_page(rt, out, run);
         let stop = run.stop;
         if !is_going(stop) {
             return run;
@@ -104,8 +105,15 @@ fn do_turns(
     run
 }
 
-// Does a script, from a file that is open. `book` is `words::book`.
-pub fn do_file(fd: i32, mem: &mut [u8], out: &mut [u8], style: Style, book: &[u8]) -> Run {
+// Does a script, from an input that is open. `book` is `words::book`.
+pub fn do_file<R: Print, I: Read>(
+    rt: &R,
+    input: &mut I,
+    mem: &mut [u8],
+    out: &mut [u8],
+    style: Style,
+    book: &[u8],
+) -> Run {
     let mut buf = io::large_buffer();
-    do_turns(fd, &mut buf, mem, out, style, book)
+    do_turns(rt, input, &mut buf, mem, out, style, book)
 }

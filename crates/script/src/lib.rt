@@ -6,19 +6,18 @@ mod file;
 
 use chain::Delivered;
 pub use file::{carry, do_file, read_more};
-use libc::STDOUT_FILENO;
 use lines::{Given, Holds, Kind, Line, Style};
 use rules::Place;
 
-// Why a run stopped.
+// Why a run stopped. What could not be read or written has the number of the error.
 #[derive(Clone, Copy)]
 pub enum Stop {
     Going,
     Ended,
     NoChain,
     Malformed,
-    Unread,
-    Unwritten,
+    Unread(i32),
+    Unwritten(i32),
 }
 
 // How far a run has come: bytes used of the page, lines of the script or bytes of the capture that were done, bytes of the text that were
@@ -64,21 +63,23 @@ pub fn stopped(run: Run, stop: Stop) -> Run {
 }
 
 // Writes the page where less than 4 KiB of it are free, more than a line of output takes.
-pub fn flush_full(out: &[u8], run: Run) -> Run {
+pub fn flush_full<R: Print>(rt: &R, out: &[u8], run: Run) -> Run {
     if run.at < 61440 {
         return run;
     }
-    flush_page(out, run)
+    flush_page(rt, out, run)
 }
 
 // Writes the page.
-pub fn flush_page(out: &[u8], run: Run) -> Run {
-    if text::flush(STDOUT_FILENO, out, run.at) {
-        let mut next = run;
-        next.at = 0;
-        return next;
+pub fn flush_page<R: Print>(rt: &R, out: &[u8], run: Run) -> Run {
+    match text::flush(rt, out, run.at) {
+        Ok(()) => {
+            let mut next = run;
+            next.at = 0;
+            next
+        }
+        Err(e) => stopped(run, Stop::Unwritten(text::number_of(&e))),
     }
-    stopped(run, Stop::Unwritten)
 }
 
 // A chain's answer in the first bytes of a room, or its refusal.
@@ -136,7 +137,8 @@ fn do_said(line: Line, mem: &mut [u8], out: &mut [u8], style: Style, run: Run, b
 }
 
 // Does a line.
-fn do_line(
+fn do_line<R: Print>(
+    rt: &R,
     line: Line,
     mem: &mut [u8],
     out: &mut [u8],
@@ -144,7 +146,7 @@ fn do_line(
     before: Run,
     book: &[u8],
 ) -> Run {
-    let run = flush_full(out, before);
+    let run = flush_full(rt, out, before);
     let stop = run.stop;
     if !is_going(stop) {
         return run;
@@ -158,7 +160,8 @@ fn do_line(
 }
 
 // Does the line at an index, if it is whole, or the last one. `used` then says where the next line begins.
-fn do_next(
+fn do_next<R: Print>(
+    rt: &R,
     s: &[u8],
     holds: Holds,
     mem: &mut [u8],
@@ -171,14 +174,15 @@ fn do_next(
     if line.next == run.used {
         return run;
     }
-    let mut done = do_line(line, mem, out, style, run, book);
+    let mut done = do_line(rt, line, mem, out, style, run, book);
     done.used = line.next;
     done.line = done.line.wrapping_add(line.step);
     done
 }
 
 // Does each whole line of a text; `used` then says where the line begins that is not whole.
-pub fn do_lines(
+pub fn do_lines<R: Print>(
+    rt: &R,
     s: &[u8],
     holds: Holds,
     mem: &mut [u8],
@@ -192,7 +196,7 @@ pub fn do_lines(
     let mut left = s.len();
     while left > 0 {
         let at = run.used;
-        run = do_next(s, holds, mem, out, style, run, book);
+        run = do_next(rt, s, holds, mem, out, style, run, book);
         if run.used == at {
             return run;
         }
@@ -215,7 +219,8 @@ pub fn ended(run: Run) -> Run {
 }
 
 // The end of the file: what is left is a line without its line feed.
-pub(crate) fn do_last(
+pub(crate) fn do_last<R: Print>(
+    rt: &R,
     last: &[u8],
     mem: &mut [u8],
     out: &mut [u8],
@@ -228,5 +233,5 @@ pub(crate) fn do_last(
     }
     let mut begun = run;
     begun.used = 0;
-    ended(do_next(last, Holds::LastLine, mem, out, style, begun, book))
+    ended(do_next(rt, last, Holds::LastLine, mem, out, style, begun, book))
 }

@@ -37,6 +37,7 @@ fn flags_in(b: u8) -> Flags
 }
 
 // The lamp in a slot.
+#[tactic(auto, unfolding(crate::specs::Slot::lamp_of))]
 pub fn lamp_of(bytes: [u8; SIZE]) -> Lamp
     ensures { result ≡ lamp_of bytes }
 {
@@ -78,6 +79,7 @@ fn is_word(high: u8, low: u8, n: u16) -> bool
 }
 
 // Whether the lamp in a slot has an address.
+#[tactic(auto, unfolding(crate::specs::Slot::lamp_of))]
 pub fn has_address(bytes: [u8; SIZE], a: Address) -> bool
     ensures { result ≡ eqb (lamp_of bytes).address.0 a.0 }
 {
@@ -100,6 +102,7 @@ pub fn is_right(bytes: [u8; SIZE]) -> bool
 }
 
 // The slot of a lamp.
+#[tactic(auto, unfolding(crate::specs::Slot::slot_of))]
 pub fn slot_of(l: Lamp) -> [u8; SIZE]
     ensures { result ≡ slot_of l }
 {

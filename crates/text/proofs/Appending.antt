@@ -1,7 +1,7 @@
 -- How code appends a word: by no store where it does not fit, else by a copy or by a store for each byte.
 -- Assumes nothing.
-use Rattle.std.proofs.Common.{◌≡◌, ℕ, suc, ◌+◌, ◌-◌, ◌<◌, ◌≤◌, List, [], ◌∷◌, ◌++◌, map, length, get_or, take, drop, set, replicate, sym, ap, ◌∙◌, ap₂, append_assoc, append-nil, add-one, arith, length-drop, drop_of_length-le, take_all, drop-cons, drop-drop, le-leb}
-use lib.Seq.{drop-length, take-length, sets-eq}
+use Rattle.std.proofs.Common.{◌≡◌, ℕ, suc, ◌+◌, ◌-◌, ◌<◌, ◌≤◌, List, [], ◌∷◌, ◌++◌, map, length, get_or, take, drop, set, replicate, sym, ap, ◌∙◌, ap₂, append_assoc, add-one, arith, drop_of_length-le, drop-cons, le-leb}
+use lib.Seq.{sets-eq}
 use borrow.Author.Tests.{lt-leb}
 use borrow.Rule.Slice.PartMut.{put_mid, Post-is}
 use Rattle.text.specs.Putting.{Text, text, appended, appended_all}
@@ -16,18 +16,13 @@ module _ (word out : List ℕ) (at : ℕ) where
   unfolding appended
   fitting h e = simp (le-leb (at + length word) (length out) h) (ap (text (at + length word)) e)
 
-  -- what `bytes::copy` of the word to `&mut out[at..]` leaves
-  pub copied : {ys : List ℕ} → at + length word ≤ length out
-      → ys ≡ take (length word) word ++ drop (length word) (take (length out - at) (drop at out))
-      → text (at + length word) (put_mid at (length out - at) out ys) ≡ appended word (text at out)
+  -- what a copy of the word to `&mut out[at..at + n]` leaves
+  pub copied : {ys : List ℕ} → at + length word ≤ length out → ys ≡ word
+      → text (at + length word) (put_mid at (at + length word - at) out ys) ≡ appended word (text at out)
   copied {ys} h e =
       fitting h
-      (ap (λ (r : List ℕ). take at out ++ (ys ++ r)) (Post-is at (length out) out (omega arith) ∙ drop-length out)
-      ∙ ap (λ (r : List ℕ). take at out ++ r)
-      (append-nil ys ∙ e
-      ∙ ap₂ (λ (x y : List ℕ). x ++ drop (length word) y) (take-length word)
-      (take_all (length out - at) (drop at out) (simp length-drop (omega arith)))
-      ∙ ap (λ (r : List ℕ). word ++ r) (drop-drop (length word) at out))
+      (ap (λ (r : List ℕ). take at out ++ (ys ++ r)) (Post-is at (at + length word) out (omega arith))
+      ∙ ap (λ (w : List ℕ). take at out ++ (w ++ drop (at + length word) out)) e
       ∙ sym (append_assoc (take at out) word (drop (at + length word) out)))
 
 -- what a store of one byte leaves

@@ -2,11 +2,16 @@
 // function takes every argument, so that callers have nothing to show.
 #![tactic(auto)]
 
+mod pieces;
 pub mod reading;
+mod streams;
 
 ghost use Rattle.std.specs.Prelude.{◌≡◌, ◌+◌, ◌-◌, ◌/◌, ◌%◌, min, [], ◌∷◌, ◌++◌, map, length, take, drop, replicate, if◌then◌else◌, nat_eq, slice_index};
 ghost use Rattle.io.specs.Counts.{IsPrefixLen};
 ghost use Rattle.text.specs.Putting.{text, appended, appended_all, spaces, hex_digit, in_hex, spaced_hex, decimal, empty_places, in_five};
+
+pub use pieces::{ended, find, line_in, line_of, page_of};
+pub use streams::{ERR, FAILED, IN, OUT, flush, number_of, say};
 
 // The number nearest to n that counts bytes at the start of s.
 pub fn within(n: usize, s: &[u8]) -> usize
@@ -224,70 +229,4 @@ fn put_next(out: &mut [u8], at: usize, b: u8) -> usize
     out[at + 1] = digit(b / 16);
     out[at + 2] = digit(b);
     at + 3
-}
-
-// A row up to the bar that ends it.
-pub fn ended(row: &[u8]) -> &[u8] {
-    first(row, bytes::scan::find(row, 0, row.len(), b'|'))
-}
-
-// Which line of a list is a word, from 0 on; the number of its lines where none is. Each line has its line feed.
-pub fn line_in(list: &[u8], word: &[u8]) -> usize {
-    let n = list.len();
-    let mut at = 0;
-    let mut k = 0;
-    while at < n {
-        let end = bytes::scan::find(list, at, n, b'\n');
-        if check::same(&list[at..end], word) {
-            return k;
-        }
-        k = k.wrapping_add(1);
-        at = end + 1;
-    }
-    k
-}
-
-// Line k of a text, from 0 on; the last one where there are not so many.
-pub fn line_of(text: &[u8], k: usize) -> &[u8] {
-    piece_of(text, k, b'\n')
-}
-
-// Page k of a text whose pages are separated by bars.
-pub fn page_of(text: &[u8], k: usize) -> &[u8] {
-    piece_of(text, k, b'|')
-}
-
-// Piece k of a text whose pieces are separated by a character.
-fn piece_of(text: &[u8], k: usize, between: u8) -> &[u8] {
-    let mut at = 0;
-    let mut i = 0;
-    while i < k {
-        at = after_piece(text, at, between);
-        i += 1;
-    }
-    piece_at(text, at, between)
-}
-
-// Where the piece behind the one at an index starts.
-fn after_piece(text: &[u8], at: usize, between: u8) -> usize {
-    let n = text.len();
-    if n < at {
-        return n;
-    }
-    let end = bytes::scan::find(text, at, n, between);
-    if end < n { end + 1 } else { at }
-}
-
-fn piece_at(text: &[u8], at: usize, between: u8) -> &[u8] {
-    let n = text.len();
-    if n < at {
-        return &text[n..];
-    }
-    let end = bytes::scan::find(text, at, n, between);
-    &text[at..end]
-}
-
-// Writes the first n bytes in one call. Answers whether they were written.
-pub fn flush(fd: i32, out: &[u8], n: usize) -> bool {
-    io::write_all(fd, first(out, n))
 }

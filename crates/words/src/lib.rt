@@ -61,7 +61,7 @@ fn put_run(
     book: &[u8],
 ) -> Progress {
     let rest = text::from(form, p.index);
-    let run = bytes::scan::find(rest, 0, rest.len(), b'%');
+    let run = text::find(rest, 0, rest.len(), b'%');
     let letter = text::byte_at(rest, run.wrapping_add(1));
     let a = text::put(out, p.at, text::first(rest, run));
     Progress {

@@ -67,7 +67,7 @@ pub fn name_size(book: &[u8], number: u8) -> usize {
 fn is_name(book: &[u8], word: &[u8], number: u8) -> bool {
     let name = spelled(book, number);
     let letters = name.text;
-    check::same(word, text::first(&letters, name.size))
+    word == text::first(&letters, name.size)
 }
 
 // The command that a name says.

@@ -38,7 +38,7 @@ rest : (c : In_default) → acknowledged c.args.n ≡ true
 unfolding keys silent row_of acknowledged
 rest c =
     let h = c.requires in
-    only-left silent answer_size_of keys acknowledged tt c.args.n (omega arith) c.in_default.rest
+    only-left silent answer_size_of keys acknowledged tt c.args.n (omega arith) (search rules)
     (ap silent h.0 ∙ spoken h.1)
 
 two : (c : In_default) → length c.args.p.now ≡ 2

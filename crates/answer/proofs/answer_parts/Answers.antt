@@ -1,7 +1,6 @@
 -- `answer::answer_parts` meets its contract: an arm for each case.
 -- Assumes nothing.
 use mathlib.Core.Path.{◌∙◌, ap, sym}
-use borrow.Author.Rules.{rules}
 use mathlib.Core.List.{[], ◌∷◌}
 use Prim.Native.Nat.{ℕ}
 use Rattle.command.specs.Fields.{Layout, octets}
@@ -58,8 +57,10 @@ returns-in-Words c = c.pwm_parts.ensures ∙ ap laid (sym c.in-Words.is)
 
 pub returns-in-Acknowledgement : goal.returns-in-Acknowledgement
 unfolding laid answer_layout_of
-returns-in-Acknowledgement c = let g = c.a-in-Acknowledgement-1.given in
+returns-in-Acknowledgement c =
+    let a = c.in-Acknowledgement in
     c.two_bytes-in-Acknowledgement.ensures
-    ∙ ap (λ (n : ℕ). parts_by octets (numbered n (g.0.1.0 ∷ g.0.1.1.0 ∷ []))) c.number_of_lem.ensures
-    ∙ ap (λ (l : Layout). parts_by l (answer_message_of (Acknowledgement g.0.0 g.0.1.0 g.0.1.1.0))) (acknowledged-octets (acknowledged_number g.0.0) (named-acknowledged g.0.0))
-    ∙ ap laid (sym g.1)
+    ∙ ap (λ (n : ℕ). parts_by octets (numbered n (a.temperature ∷ a.status ∷ []))) c.number_of.ensures
+    ∙ ap (λ (l : Layout). parts_by l (answer_message_of (Acknowledgement a.c a.temperature a.status)))
+    (acknowledged-octets (acknowledged_number a.c) (named-acknowledged a.c))
+    ∙ ap laid (sym a.is)

@@ -3,15 +3,12 @@
 use Prim.Native.Nat.{ℕ}
 use mathlib.Core.Path.{◌≡◌, ◌∙◌, sym, ap}
 use native.Mathlib.Nat.{add-sub_cancel_left}
-use borrow.Author.Rules.{rules}
-use borrow.Author.Tests.{not-true, not-false}
 use Rattle.telegram.specs.Numbers.{done}
 use Rattle.telegram.specs.Telegram.{payload_in}
 use Rattle.table.specs.Table.{row_of, entry_as}
 use Rattle.command.specs.Fields.{fields_by}
 use Rattle.command.specs.Commands.{numbered}
 use Rattle.answer.specs.Answers.{answer_layout_of}
-use Rattle.table.proofs.Table.{part-answer}
 use Rattle.answer.proofs.Answering.{answer-unknown, answer-none, answer-from, answer-size, answer-done}
 use Rattle.answer.proofs.name_answer.Goals as goal
 use Rattle.answer.proofs.name_answer.Goals.{In-Known}
@@ -27,15 +24,15 @@ pub returns-then-answer_size-eq0 : goal.returns-then-answer_size-eq0
 returns-then-answer_size-eq0 c = answer-none _ _ _ (row_is (goal.at.returns-then-answer_size-eq0 c).In-Known) c.if-answer_size-eq0.true
 
 pub returns-then-not-answer_address : goal.returns-then-not-answer_address
-returns-then-not-answer_address c = answer-from _ _ _ (row_is (goal.at.returns-then-not-answer_address c).In-Known) c.if-answer_size-eq0.false (sym c.answer_address.ensures ∙ not-true _ c.if-not-answer_address.true)
+returns-then-not-answer_address c = answer-from _ _ _ (row_is (goal.at.returns-then-not-answer_address c).In-Known) c.if-answer_size-eq0.false (sym c.answer_address.ensures ∙ c.if-not-answer_address.true)
 
 pub returns-then-size-answer_size : goal.returns-then-size-answer_size
-returns-then-size-answer_size c = answer-size _ _ _ (row_is (goal.at.returns-then-size-answer_size c).In-Known) c.if-answer_size-eq0.false (sym c.answer_address.ensures ∙ not-false _ c.if-not-answer_address.false)
+returns-then-size-answer_size c = answer-size _ _ _ (row_is (goal.at.returns-then-size-answer_size c).In-Known) c.if-answer_size-eq0.false (sym c.answer_address.ensures ∙ c.if-not-answer_address.false)
     c.if-size-answer_size.true
 
 pub returns : goal.returns
 returns c = let a = c.args in
-    answer-done _ _ _ (row_is (goal.at.returns c).In-Known) c.if-answer_size-eq0.false (sym c.answer_address.ensures ∙ not-false _ c.if-not-answer_address.false)
+    answer-done _ _ _ (row_is (goal.at.returns c).In-Known) c.if-answer_size-eq0.false (sym c.answer_address.ensures ∙ c.if-not-answer_address.false)
     c.if-size-answer_size.false
     _
     (c.answer_of-answer.ensures

@@ -1,6 +1,5 @@
 -- `capture::next_at` meets its contract: the state is refused, or the reading's standing decides. Assumes nothing.
-use Rattle.std.proofs.Common.{◌≡◌, true, sym, ap, ◌∙◌, rules}
-use borrow.Author.Tests.{not-true, not-false}
+use Rattle.std.proofs.Common.{◌≡◌, true, sym, ap, ◌∙◌}
 use Rattle.telegram.specs.Numbers.{reason_of}
 use Rattle.capture.specs.State.{going, ended, stopped_for, standing_of, state_of, is_left}
 use Rattle.capture.proofs.States.{next-not, next-by}
@@ -8,13 +7,10 @@ use Rattle.capture.proofs.next_at.Goals as goal
 use Rattle.capture.proofs.next_at.Goals.{Else-not-is_left}
 
 good : (c : Else-not-is_left) → is_left (state_of c.args.carried) ≡ true
-good c = sym c.is_left.ensures ∙ not-false _ c.if-not-is_left.false
+good c = sym c.is_left.ensures ∙ c.if-not-is_left.false
 
 pub returns-then-not-is_left : goal.returns-then-not-is_left
-returns-then-not-is_left c = c.bare.ensures ∙ next-not _ _ _ (sym c.is_left.ensures ∙ not-true _ c.if-not-is_left.true)
-
-pub next_open-requires : goal.next_open-requires
-next_open-requires c = (good (goal.at.next_open-requires c).Else-not-is_left, ap standing_of c.in-Open.is)
+returns-then-not-is_left c = c.bare.ensures ∙ next-not _ _ _ (sym c.is_left.ensures ∙ c.if-not-is_left.true)
 
 pub returns-in-Open : goal.returns-in-Open
 returns-in-Open c = c.next_open.ensures

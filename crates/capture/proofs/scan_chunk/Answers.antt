@@ -1,6 +1,5 @@
 -- `capture::scan_chunk` meets its contract: the state is refused, or the reading's standing decides. Assumes nothing.
-use Rattle.std.proofs.Common.{◌≡◌, ℕ, true, sym, ap, ◌∙◌, subst, rules}
-use borrow.Author.Tests.{not-true, not-false}
+use Rattle.std.proofs.Common.{◌≡◌, ℕ, true, sym, ap, ◌∙◌, subst}
 use Rattle.telegram.specs.Numbers.{Outcome, reason_of}
 use Rattle.capture.specs.State.{Standing, ended, stopped_for, standing_of, State, state_of, is_left}
 use Rattle.capture.specs.Calls.{Reply, answer_of, Scanned, scanned}
@@ -11,7 +10,7 @@ use Rattle.capture.proofs.scan_chunk.Goals as goal
 use Rattle.capture.proofs.scan_chunk.Goals.{Else-not-is_left}
 
 good : (c : Else-not-is_left) → is_left (state_of c.args.carried) ≡ true
-good c = sym c.is_left.ensures ∙ not-false _ c.if-not-is_left.false
+good c = sym c.is_left.ensures ∙ c.if-not-is_left.false
 
 abbrev told : Outcome Reply → ℕ → ℕ → State → Scanned
 told o n p s = record { answer = o; telegrams = n; position = p; state = s }
@@ -26,14 +25,11 @@ again : (s : State) (k : Standing) → s.standing ≡ k → told (answer_of k) 0
 again s k e = ap (λ (x : Standing). told (answer_of x) 0 s.position s) (sym e)
 
 pub returns-then-not-is_left : goal.returns-then-not-is_left
-returns-then-not-is_left c = c.still_scan.ensures ∙ scan-not _ _ (sym c.is_left.ensures ∙ not-true _ c.if-not-is_left.true)
-
-pub scan_open-t-requires : goal.scan_open-t-requires
-scan_open-t-requires c = (good (goal.at.scan_open-t-requires c).Else-not-is_left, ap standing_of c.in-Open.is)
+returns-then-not-is_left c = c.still_scan.ensures ∙ scan-not _ _ (sym c.is_left.ensures ∙ c.if-not-is_left.true)
 
 pub returns-in-Open : goal.returns-in-Open
 returns-in-Open c = let r = c.scan_open-t.ensures in
-    read _ c.step_of_lem.ensures r.0 r.1.0 r.1.1 ∙ scan-left _ _ (good (goal.at.returns-in-Open c).Else-not-is_left)
+    read _ c.step_of.ensures r.telegrams_value r.position_value.0 r.position_value.1 ∙ scan-left _ _ (good (goal.at.returns-in-Open c).Else-not-is_left)
 
 pub returns-in-Ended : goal.returns-in-Ended
 returns-in-Ended c = let g = ap standing_of c.in-Ended.is in

@@ -1,10 +1,9 @@
 -- `command::name_command` meets its contract: the heading's refusal is passed on whole, and what it names gets its fields.
 -- Assumes nothing.
 use mathlib.Core.Path.{◌≡◌, ◌∙◌, sym, ap}
-use borrow.Author.Rules.{rules}
 use Rattle.command.specs.Commands.{naming, heading_as}
 use Rattle.command.specs.declared.Heading.TheVariants.{To}
-use Rattle.command.proofs.Naming.{headed-size, headed-message}
+use Rattle.command.proofs.Naming.{headed-size}
 use Rattle.command.proofs.name_command.Goals as goal
 use Rattle.command.proofs.name_command.Goals.{In-To}
 

@@ -1,5 +1,5 @@
 -- `reader::end_capture` meets its contract: memory holds no state, or the end of the reading decides. Assumes nothing.
-use Rattle.std.proofs.Common.{◌≡◌, ℕ, ◌≤◌, Bool, true, false, not, length, get_or, sym, refl, ap, ◌∙◌, subst, arith, w8, Fits, rules}
+use Rattle.std.proofs.Common.{◌≡◌, ℕ, ◌≤◌, Bool, false, not, length, get_or, sym, refl, ap, ◌∙◌, subst, w8, Fits, rules}
 use borrow.Author.Tests.{not-true, not-false}
 use Rattle.telegram.specs.Numbers.{Reason, refused, done, refuse}
 use Rattle.telegram.proofs.Outcomes.{never, refused-one}
@@ -13,7 +13,7 @@ use Rattle.reader.proofs.Few.{end-few}
 use Rattle.reader.proofs.Holding.{held-sums}
 use Rattle.reader.proofs.Exits.{end_none, end-told, ended}
 use Rattle.reader.proofs.end_capture.Goals as goal
-use Rattle.reader.proofs.end_capture.Goals.{After-end_run-c, After-read_state-held, After-struct_known-1, Else-not-held, In-Ended-1, In-More-1, In-Refused-1, In-Telegram-1}
+use Rattle.reader.proofs.end_capture.Goals.{After-end_run-c, After-struct_known-1}
 
 -- what was read out of memory
 held : (c : After-struct_known-1) (v : Bool) → c.read_state-held.result.valid ≡ v
@@ -22,13 +22,15 @@ held c v e =
     sym c.read_state-held.ensures
     ∙ ap (λ (x : Bool). refuse (not x) 11 (done (state_of c.read_state-held.result.reading))) e
 
-holds : (c : Else-not-held) → state_in c.args.reader.now ≡ done (state_of c.read_state-held.result.reading)
-holds c = held (c-AT After-struct_known-1) true (not-false _ c.if-not-held.false)
+holds : (c : After-end_run-c) → state_in c.args.reader.now ≡ done (state_of c.read_state-held.result.reading)
+holds c =
+    sym c.read_state-held.ensures
+    ∙ ap (λ (x : Bool). refuse (not x) 11 (done (state_of c.read_state-held.result.reading))) (not-false _ c.if-not-held.false)
 
-long : (c : After-read_state-held) → length c.read_state-held.result.reading.bytes ≡ 12
+long : (c : After-end_run-c) → length c.read_state-held.result.reading.bytes ≡ 12
 long c = search rules
 
-byte : (c : After-read_state-held) (k : ℕ) → Fits w8 (get_or c.read_state-held.result.reading.bytes k 0)
+byte : (c : After-end_run-c) (k : ℕ) → Fits w8 (get_or c.read_state-held.result.reading.bytes k 0)
 byte c k = search rules
 
 -- what is kept fits
@@ -36,11 +38,11 @@ few : (c : After-end_run-c) → (step_as c.end_run-c.result.step ≡ refused 11 
 few c f =
     let e = c.end_run-c.ensures in
     subst (λ (n : ℕ). n ≤ 11) (sym (ap (λ (x : Closed). x.state.count) e))
-    (end-few (state_of c.read_state-held.result.reading) (long (c-AT After-struct_known-1)) (λ i. (byte (c-AT After-struct_known-1) i).fits)
-    (held-sums _ _ (holds (c-AT After-end_run-arg-1)) (λ i. omega (arith, c.slice_known-1.given i))) (λ z. f (ap (λ (x : Closed). x.answer) e ∙ z)))
+    (end-few (state_of c.read_state-held.result.reading) (long c) (λ i. (byte c i).fits)
+    (held-sums _ _ (holds c) (λ i. search rules)) (λ z. f (ap (λ (x : Closed). x.answer) e ∙ z)))
 
 enough : (c : After-end_run-c) → 21 ≤ length c.args.reader.now
-enough c = state-long _ _ (holds (c-AT After-end_run-arg-1))
+enough c = state-long _ _ (holds c)
 
 -- the end by what the reading answered
 by : (c : After-end_run-c) (k : Step) → c.end_run-c.result.step ≡ k
@@ -51,7 +53,7 @@ by c k e = ap (λ (x : Step). end_answering (step_as x) (state_of c.end_run-c.re
 told : (c : After-end_run-c) (k : Step) → c.end_run-c.result.step ≡ k
     → let mem = c.args.reader.now in
     end_answering (step_as k) (state_of c.end_run-c.result.reading) mem ≡ reader_end mem
-told c k e = by c k e ∙ end-told _ _ (closing_as c.end_run-c.result) (holds (c-AT After-end_run-arg-1)) c.end_run-c.ensures
+told c k e = by c k e ∙ end-told _ _ (closing_as c.end_run-c.result) (holds c) c.end_run-c.ensures
 
 -- a reply: what is kept fits
 kept : (c : After-end_run-c) {r : Reply} → step_as c.end_run-c.result.step ≡ done r
@@ -59,28 +61,40 @@ kept : (c : After-end_run-c) {r : Reply} → step_as c.end_run-c.result.step ≡
 kept c e = (few c (λ z. never (sym z ∙ e)), enough c)
 
 pub returns-then-not-held : goal.returns-then-not-held
-returns-then-not-held c = ended (end_none _ (held (goal.at.returns-then-not-held c).After-struct_known-1 false (not-true _ c.if-not-held.true))) refl refl
+returns-then-not-held c =
+    let p = ended (end_none _ (held (goal.at.returns-then-not-held c).After-struct_known-1 false (not-true _ c.if-not-held.true))) refl refl in
+    record { value = p.0; reader_after = p.1 }
 
 pub keep_done-requires : goal.keep_done-requires
-keep_done-requires c = kept (goal.at.keep_done-requires c).In-Telegram-1 (ap step_as c.in-Telegram.is)
+keep_done-requires c = kept (goal.at.keep_done-requires c).After-end_run-c (ap step_as c.in-Telegram.is)
 
 pub keep_done-requires-in-More : goal.keep_done-requires-in-More
-keep_done-requires-in-More c = kept (goal.at.keep_done-requires-in-More c).In-More-1 (ap step_as c.in-More.is)
+keep_done-requires-in-More c = kept (goal.at.keep_done-requires-in-More c).After-end_run-c (ap step_as c.in-More.is)
 
 pub keep_done-requires-in-Ended : goal.keep_done-requires-in-Ended
-keep_done-requires-in-Ended c = kept (goal.at.keep_done-requires-in-Ended c).In-Ended-1 (ap step_as c.in-Ended.is)
+keep_done-requires-in-Ended c = kept (goal.at.keep_done-requires-in-Ended c).After-end_run-c (ap step_as c.in-Ended.is)
 
 pub refuse_kept-requires : goal.refuse_kept-requires
-refuse_kept-requires c = ((λ n. few (goal.at.refuse_kept-requires c).In-Refused-1 (λ z. n (ap (λ (x : Reason). x.number) (refused-one (sym (ap step_as c.in-Refused.is) ∙ z))))), enough (goal.at.refuse_kept-requires c).In-Refused-1)
+refuse_kept-requires c =
+    let q = (goal.at.refuse_kept-requires c).After-end_run-c in
+    (λ n. few q (λ z. n (ap (λ (x : Reason). x.number) (refused-one (sym (ap step_as c.in-Refused.is) ∙ z)))), enough q)
 
 pub returns-in-Telegram : goal.returns-in-Telegram
-returns-in-Telegram c = ended (told (goal.at.returns-in-Telegram c).In-Telegram-1 _ c.in-Telegram.is) c.keep_done.ensures.0 c.keep_done.ensures.1
+returns-in-Telegram c =
+    let p = ended (told (goal.at.returns-in-Telegram c).After-end_run-c _ c.in-Telegram.is) c.keep_done.ensures.value c.keep_done.ensures.reader_after in
+    record { value = p.0; reader_after = p.1 }
 
 pub returns-in-More : goal.returns-in-More
-returns-in-More c = ended (told (goal.at.returns-in-More c).In-More-1 _ c.in-More.is) c.keep_done-in-More.ensures.0 c.keep_done-in-More.ensures.1
+returns-in-More c =
+    let p = ended (told (goal.at.returns-in-More c).After-end_run-c _ c.in-More.is) c.keep_done-in-More.ensures.value c.keep_done-in-More.ensures.reader_after in
+    record { value = p.0; reader_after = p.1 }
 
 pub returns-in-Ended : goal.returns-in-Ended
-returns-in-Ended c = ended (told (goal.at.returns-in-Ended c).In-Ended-1 _ c.in-Ended.is) c.keep_done-in-Ended.ensures.0 c.keep_done-in-Ended.ensures.1
+returns-in-Ended c =
+    let p = ended (told (goal.at.returns-in-Ended c).After-end_run-c _ c.in-Ended.is) c.keep_done-in-Ended.ensures.value c.keep_done-in-Ended.ensures.reader_after in
+    record { value = p.0; reader_after = p.1 }
 
 pub returns-in-Refused : goal.returns-in-Refused
-returns-in-Refused c = ended (told (goal.at.returns-in-Refused c).In-Refused-1 _ c.in-Refused.is) c.refuse_kept.ensures.0 c.refuse_kept.ensures.1
+returns-in-Refused c =
+    let p = ended (told (goal.at.returns-in-Refused c).After-end_run-c _ c.in-Refused.is) c.refuse_kept.ensures.value c.refuse_kept.ensures.reader_after in
+    record { value = p.0; reader_after = p.1 }

@@ -1,5 +1,5 @@
 -- `reader::next_carried` meets its contract: memory holds no state, or what the reading answered decides. Assumes nothing.
-use Rattle.std.proofs.Common.{◌≡◌, ℕ, ◌≤◌, Bool, true, false, cond, not, ltb, List, [], length, get_or, sym, refl, ap, ◌∙◌, subst, arith, w8, Fits, rules, le-ltb}
+use Rattle.std.proofs.Common.{◌≡◌, ℕ, ◌≤◌, Bool, false, cond, not, ltb, List, [], length, get_or, sym, refl, ap, ◌∙◌, subst, arith, w8, Fits, rules, le-ltb}
 use borrow.Author.Tests.{not-true, not-false}
 use Rattle.telegram.specs.Numbers.{Reason, refused, done, refuse, fitted, leaves}
 use Rattle.telegram.specs.Telegram.{Bytes}
@@ -15,7 +15,7 @@ use Rattle.reader.proofs.Few.{next-few, next_fits, next-waits}
 use Rattle.reader.proofs.Holding.{held-open, held-sums}
 use Rattle.reader.proofs.Exits.{next-none, next-told, called}
 use Rattle.reader.proofs.next_carried.Goals as goal
-use Rattle.reader.proofs.next_carried.Goals.{After-next_at-n, After-read_likely_open-held, After-shared_slice_known-1, After-struct_known-1, Else-not-held, In-Refused-1}
+use Rattle.reader.proofs.next_carried.Goals.{After-next_at-n, After-struct_known-1}
 
 -- what was read out of memory
 held : (c : After-struct_known-1) (v : Bool) → c.read_likely_open-held.result.valid ≡ v
@@ -24,49 +24,48 @@ held c v e =
     sym c.read_likely_open-held.ensures
     ∙ ap (λ (x : Bool). refuse (not x) 11 (done (state_of c.read_likely_open-held.result.reading))) e
 
-holds : (c : Else-not-held) → state_in c.args.reader.now ≡ done (state_of c.read_likely_open-held.result.reading)
-holds c = held (c-AT After-struct_known-1) true (not-false _ c.if-not-held.false)
+holds : (c : After-next_at-n) → state_in c.args.reader.now ≡ done (state_of c.read_likely_open-held.result.reading)
+holds c =
+    sym c.read_likely_open-held.ensures
+    ∙ ap (λ (x : Bool). refuse (not x) 11 (done (state_of c.read_likely_open-held.result.reading))) (not-false _ c.if-not-held.false)
 
-long : (c : After-read_likely_open-held) → length c.read_likely_open-held.result.reading.bytes ≡ 12
+long : (c : After-next_at-n) → length c.read_likely_open-held.result.reading.bytes ≡ 12
 long c = search rules
 
-byte : (c : After-read_likely_open-held) (k : ℕ) → Fits w8 (get_or c.read_likely_open-held.result.reading.bytes k 0)
+byte : (c : After-next_at-n) (k : ℕ) → Fits w8 (get_or c.read_likely_open-held.result.reading.bytes k 0)
 byte c k = search rules
 
-each : (c : After-shared_slice_known-1) → Bytes c.args.chunk.now
-each c i = omega (arith, c.type_inv.chunk i)
-
-abbrev start : tie.After-next-at → tie.Start
-start c = c.before.before.before.before.before.before.before.before.before
+each : (c : After-next_at-n) → Bytes c.args.chunk.now
+each c i = search rules
 
 -- what is kept fits
 few : (c : After-next_at-n) → (step_as c.next_at-n.result.step ≡ refused 11 → ⊥) → c.next_at-n.result.reading.count ≤ 11
 few c f =
     let e = c.next_at-n.ensures in
     subst (λ (n : ℕ). n ≤ 11) (sym (ap (λ (x : Given). x.state.count) e))
-    (next-few (state_of c.read_likely_open-held.result.reading) (long (c-AT After-struct_known-1)) (λ i. (byte (c-AT After-struct_known-1) i).fits)
-    (held-sums _ _ (holds (c-AT After-next_at-arg-1)) (λ i. omega (arith, c.type_inv.reader i)))
-    _ _ (each (c-AT After-shared_slice_known-1)) (λ z. f (ap (λ (x : Given). x.answer) e ∙ z)))
+    (next-few (state_of c.read_likely_open-held.result.reading) (long c) (λ i. (byte c i).fits)
+    (held-sums _ _ (holds c) (λ i. search rules))
+    _ _ (each c) (λ z. f (ap (λ (x : Given). x.answer) e ∙ z)))
 
-enough : (c : After-next_at-n) → 21 ≤ length (start c).args.reader.now
-enough c = state-long _ _ (holds (c-AT After-next_at-arg-1))
+enough : (c : After-next_at-n) → 21 ≤ length c.args.reader.now
+enough c = state-long _ _ (holds c)
 
 -- a reply: what is kept fits
 kept : (c : After-next_at-n) {r : Reply} → step_as c.next_at-n.result.step ≡ done r
-    → (c.next_at-n.result.reading.count ≤ 11) × (21 ≤ length (start c).args.reader.now)
+    → (c.next_at-n.result.reading.count ≤ 11) × (21 ≤ length c.args.reader.now)
 kept c e = (few c (λ z. never (sym z ∙ e)), enough c)
 
 -- more bytes are needed: standing and position are those in memory
 waits : (c : After-next_at-n) → step_as c.next_at-n.result.step ≡ done more
-    → let m = (start c).args.reader.now in
+    → let m = c.args.reader.now in
     let r = c.next_at-n.result.reading in
     (r.count ≤ 11) × (21 ≤ length m) × (standing_of r.phase ≡ going) × (get_or m 0 0 ≡ 0) × (position_in m ≡ r.position)
 waits c e =
-    let m = (start c).args.reader.now in
+    let m = c.args.reader.now in
     let s = state_of c.read_likely_open-held.result.reading in
     let g = c.next_at-n.ensures in
     let w = next-waits _ s _ (sym (ap (λ (x : Given). x.answer) g) ∙ e) in
-    let o = held-open s m (holds (c-AT After-next_at-arg-1)) w.0 in (
+    let o = held-open s m (holds c) w.0 in (
       (kept c e).0,
       enough c,
       ap (λ (x : Given). x.state.standing) g ∙ w.1,
@@ -76,18 +75,18 @@ waits c e =
 
 size : (c : After-next_at-n) (t : Telegram) → step_as c.next_at-n.result.step ≡ done (telegram t) → t.size ≤ 8
 size c t e =
-    (next_fits _ (state_of c.read_likely_open-held.result.reading) _ (λ i. (byte (c-AT After-struct_known-1) i).fits) (each (c-AT After-shared_slice_known-1))).size t
+    (next_fits _ (state_of c.read_likely_open-held.result.reading) _ (λ i. (byte c i).fits) (each c)).size t
     (sym (ap (λ (x : Given). x.answer) c.next_at-n.ensures) ∙ e)
 
 -- the call by what the reading answered
 told : (c : After-next_at-n) (k : Step) → c.next_at-n.result.step ≡ k
-    → let a = (start c).args in
+    → let a = c.args in
     answering (step_as k) (next_as c.next_at-n.result) (length a.out.now) a.reader.now a.at.now
     ≡ reader_next a.reader.now a.chunk.now a.at.now (length a.out.now)
 told c k e =
-    let a = (start c).args in
+    let a = c.args in
     ap (λ (x : Step). answering (step_as x) (next_as c.next_at-n.result) (length a.out.now) a.reader.now a.at.now) (sym e)
-    ∙ next-told _ _ _ _ _ (next_as c.next_at-n.result) (holds (c-AT After-next_at-arg-1)) c.next_at-n.ensures
+    ∙ next-told _ _ _ _ _ (next_as c.next_at-n.result) (holds c) c.next_at-n.ensures
 
 -- what is given and left where there is no telegram
 abbrev quiet : Given → ℕ → List ℕ → ℕ → Called
@@ -104,28 +103,33 @@ fits room = le-ltb room 0 (omega arith)
 
 -- such a reply: state and index move, and nothing is written
 silent : (c : After-next_at-n) (k : Step) (m : List ℕ) (i : ℕ) → c.next_at-n.result.step ≡ k
-    → let a = (start c).args in
+    → let a = c.args in
     let o = a.out.now in
     let y = reader_next a.reader.now a.chunk.now a.at.now (length o) in
     answering (step_as k) (next_as c.next_at-n.result) (length o) a.reader.now a.at.now ≡ quiet (next_as c.next_at-n.result) (length o) a.reader.now a.at.now
     → m ≡ holding (state_of c.next_at-n.result.reading) a.reader.now → i ≡ c.next_at-n.result.at
     → (0 ≡ returned y.outcome) × ((m ≡ y.memory) × ((i ≡ y.at) × (o ≡ leaves y.outcome o)))
 silent c k m i e q b d =
-    let a = (start c).args in
+    let a = c.args in
     let o = a.out.now in
     let z = fits (length o) in
     called (sym q ∙ told c k e) o (simp z) (b ∙ sym (simp z)) (d ∙ sym (simp z)) (simp z)
 
 pub returns-then-not-held : goal.returns-then-not-held
-returns-then-not-held c = let a = c.args in
-    called (next-none _ a.chunk.now a.at.now (length a.out.now) (held (goal.at.returns-then-not-held c).After-struct_known-1 false (not-true _ c.if-not-held.true))) a.out.now refl refl refl refl
+returns-then-not-held c =
+    let a = c.args in
+    let e = held (goal.at.returns-then-not-held c).After-struct_known-1 false (not-true _ c.if-not-held.true) in
+    let p = called (next-none _ a.chunk.now a.at.now (length a.out.now) e) a.out.now refl refl refl refl in
+    record { value = p.0; reader_after = p.1.0; at_after = p.1.1.0; out_after = p.1.1.1 }
 
 pub overflow_add-t : goal.overflow_add-t
 overflow_add-t c = record { fits = omega (arith, size (goal.at.overflow_add-t c).After-next_at-n _ (ap step_as c.in-Telegram.is)) }
 
 pub give-requires : goal.give-requires
-give-requires c = let e = ap step_as c.in-Telegram.is in
-    ((kept (goal.at.give-requires c).After-next_at-n e).0, (kept (goal.at.give-requires c).After-next_at-n e).1, omega (arith, size (goal.at.give-requires c).After-next_at-n _ e))
+give-requires c =
+    let q = (goal.at.give-requires c).After-next_at-n in
+    let e = ap step_as c.in-Telegram.is in
+    ((kept q e).0, (kept q e).1, omega (arith, size q _ e))
 
 pub wait-requires : goal.wait-requires
 wait-requires c = waits (goal.at.wait-requires c).After-next_at-n (ap step_as c.in-More.is)
@@ -134,17 +138,30 @@ pub move_on-requires : goal.move_on-requires
 move_on-requires c = kept (goal.at.move_on-requires c).After-next_at-n (ap step_as c.in-Ended.is)
 
 pub refuse_kept-requires : goal.refuse_kept-requires
-refuse_kept-requires c = ((λ n. few (goal.at.refuse_kept-requires c).In-Refused-1 (λ z. n (ap (λ (x : Reason). x.number) (refused-one (sym (ap step_as c.in-Refused.is) ∙ z))))), enough (goal.at.refuse_kept-requires c).In-Refused-1)
+refuse_kept-requires c =
+    let q = (goal.at.refuse_kept-requires c).After-next_at-n in
+    (λ n. few q (λ z. n (ap (λ (x : Reason). x.number) (refused-one (sym (ap step_as c.in-Refused.is) ∙ z)))), enough q)
 
 pub returns-in-Telegram : goal.returns-in-Telegram
-returns-in-Telegram c = let w = c.give.ensures in
-    called (told (goal.at.returns-in-Telegram c).After-next_at-n _ c.in-Telegram.is) (start (goal.at.returns-in-Telegram c).After-next_at-n).args.out.now w.0 w.1.1.0 w.1.1.1 w.1.0
+returns-in-Telegram c =
+    let w = c.give.ensures in
+    let p = called (told (goal.at.returns-in-Telegram c).After-next_at-n _ c.in-Telegram.is) c.args.out.now w.value w.reader_after w.at_after w.out_after in
+    record { value = p.0; reader_after = p.1.0; at_after = p.1.1.0; out_after = p.1.1.1 }
 
 pub returns-in-More : goal.returns-in-More
-returns-in-More c = silent (goal.at.returns-in-More c).After-next_at-n _ _ _ c.in-More.is refl c.wait.ensures.0 c.wait.ensures.1
+returns-in-More c =
+    let w = c.wait.ensures in
+    let p = silent (goal.at.returns-in-More c).After-next_at-n _ _ _ c.in-More.is refl w.reader_after w.at_after in
+    record { value = p.0; reader_after = p.1.0; at_after = p.1.1.0; out_after = p.1.1.1 }
 
 pub returns-in-Ended : goal.returns-in-Ended
-returns-in-Ended c = silent (goal.at.returns-in-Ended c).After-next_at-n _ _ _ c.in-Ended.is refl c.move_on.ensures.0 c.move_on.ensures.1
+returns-in-Ended c =
+    let w = c.move_on.ensures in
+    let p = silent (goal.at.returns-in-Ended c).After-next_at-n _ _ _ c.in-Ended.is refl w.reader_after w.at_after in
+    record { value = p.0; reader_after = p.1.0; at_after = p.1.1.0; out_after = p.1.1.1 }
 
 pub returns-in-Refused : goal.returns-in-Refused
-returns-in-Refused c = called (told (goal.at.returns-in-Refused c).In-Refused-1 _ c.in-Refused.is) (start (goal.at.returns-in-Refused c).In-Refused-1).args.out.now c.refuse_kept.ensures.0 c.refuse_kept.ensures.1 refl refl
+returns-in-Refused c =
+    let w = c.refuse_kept.ensures in
+    let p = called (told (goal.at.returns-in-Refused c).After-next_at-n _ c.in-Refused.is) c.args.out.now w.value w.reader_after refl refl in
+    record { value = p.0; reader_after = p.1.0; at_after = p.1.1.0; out_after = p.1.1.1 }

@@ -1,5 +1,5 @@
 -- `reader::position_of` meets its contract. Assumes nothing.
-use Rattle.std.proofs.Common.{◌≡◌, Bool, true, false, not, sym, ap, ◌∙◌, rules}
+use Rattle.std.proofs.Common.{◌≡◌, Bool, true, false, not, sym, ap, ◌∙◌}
 use borrow.Author.Tests.{not-true, not-false}
 use Rattle.telegram.specs.Numbers.{done, refuse}
 use Rattle.capture.specs.State.{state_of}
@@ -19,7 +19,7 @@ pub returns-then-not-held : goal.returns-then-not-held
 returns-then-not-held c = position-none _ (held (goal.at.returns-then-not-held c).After-struct_known-1 false (not-true _ c.if-not-held.true))
 
 pub returns-then-not-is_left : goal.returns-then-not-is_left
-returns-then-not-is_left c = position-by _ _ false (held (goal.at.returns-then-not-is_left c).After-struct_known-1 true (not-false _ c.if-not-held.false)) (sym c.is_left.ensures ∙ not-true _ c.if-not-is_left.true)
+returns-then-not-is_left c = position-by _ _ false (held (goal.at.returns-then-not-is_left c).After-struct_known-1 true (not-false _ c.if-not-held.false)) (sym c.is_left.ensures ∙ c.if-not-is_left.true)
 
 pub returns : goal.returns
-returns c = position-by _ _ true (held (goal.at.returns c).After-struct_known-1 true (not-false _ c.if-not-held.false)) (sym c.is_left.ensures ∙ not-false _ c.if-not-is_left.false)
+returns c = position-by _ _ true (held (goal.at.returns c).After-struct_known-1 true (not-false _ c.if-not-held.false)) (sym c.is_left.ensures ∙ c.if-not-is_left.false)

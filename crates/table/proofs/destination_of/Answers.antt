@@ -1,6 +1,7 @@
 -- `table::destination_of` meets its contract.
 -- Assumes nothing.
 use mathlib.Core.Path.{ap, sym}
+use native.Mathlib.Omega.{arith}
 use borrow.Author.Rules.{rules}
 use Rattle.table.specs.Casts.{destination}
 use Rattle.table.proofs.Destinations.{to_one, to-group, to-nobody}
@@ -12,12 +13,12 @@ returns-in-0 c = ap destination (sym c.in-0.is)
 
 pub returns-in-1-to-1007 : goal.returns-in-1-to-1007
 unfolding destination
-returns-in-1-to-1007 c = to_one _ c.in_default-1.rest.1 c.if-a-lt1008.true
+returns-in-1-to-1007 c = to_one _ (search rules) (omega arith)
 
 pub returns-in-1008-to-1022 : goal.returns-in-1008-to-1022
 unfolding destination
-returns-in-1008-to-1022 c = to-group _ c.if-a-lt1008.false c.if-a-lt1023.true
+returns-in-1008-to-1022 c = to-group _ (omega arith) (omega arith)
 
 pub returns-in_default : goal.returns-in_default
 unfolding destination
-returns-in_default c = to-nobody _ c.if-a-lt1008.false c.if-a-lt1023.false
+returns-in_default c = to-nobody c.args.address.0 (omega arith) (omega arith)

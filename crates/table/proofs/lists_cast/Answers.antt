@@ -1,7 +1,6 @@
 -- `table::lists_cast` meets its contract.
 -- Assumes nothing.
 use mathlib.Core.Path.{◌∙◌, sym, ap}
-use borrow.Author.Rules.{rules}
 use Rattle.telegram.specs.Numbers.{Outcome}
 use Rattle.table.specs.Table.{entry_as, lists_cast}
 use Rattle.table.specs.declared.Row.{Row}

@@ -2,6 +2,7 @@
 -- Assumes nothing.
 use mathlib.Core.Path.{◌∙◌, ap, sym}
 use native.Mathlib.Omega.{arith}
+use borrow.Author.Rules.{rules}
 use Rattle.table.specs.Table.{row_of, entry_as}
 use Rattle.table.proofs.Table.{row-00-01, row-02-03, row-04-06, row-24-26, row-between, row-behind}
 use Rattle.table.proofs.row_of.Goals as goal
@@ -71,26 +72,19 @@ unfolding row_of
 returns-in-111 c = ap entry_as c.known-in-111.ensures ∙ ap row_of (sym c.in-111.is)
 
 pub returns-in-0-to-1 : goal.returns-in-0-to-1
-unfolding row_of
-returns-in-0-to-1 c = ap entry_as c.known-in-0-to-1.ensures ∙ row-00-01 _ c.if-command-lt2.true
+returns-in-0-to-1 c = ap entry_as c.known-in-0-to-1.ensures ∙ row-00-01 _ (omega arith)
 
 pub returns-in-2-to-3 : goal.returns-in-2-to-3
-unfolding row_of
-returns-in-2-to-3 c = ap entry_as c.known-in-2-to-3.ensures ∙ row-02-03 _ c.if-command-lt2.false c.if-command-lt4.true
+returns-in-2-to-3 c = ap entry_as c.known-in-2-to-3.ensures ∙ row-02-03 _ (omega arith) (omega arith)
 
 pub returns-in-4-to-6 : goal.returns-in-4-to-6
-unfolding row_of
-returns-in-4-to-6 c = ap entry_as c.known-in-4-to-6.ensures
-    ∙ row-04-06 _ c.if-command-lt2.false c.if-command-lt4.false c.if-command-lt7.true
+returns-in-4-to-6 c = ap entry_as c.known-in-4-to-6.ensures ∙ row-04-06 _ (omega arith) (omega arith) (omega arith)
 
 pub returns-in-36-to-38 : goal.returns-in-36-to-38
-unfolding row_of
-returns-in-36-to-38 c = ap entry_as c.known-in-36-to-38.ensures ∙ row-24-26 _ c.if-command-lt36.false c.if-command-lt39.true
+returns-in-36-to-38 c = ap entry_as c.known-in-36-to-38.ensures ∙ row-24-26 _ (omega arith) (omega arith)
 
 pub returns-in_default : goal.returns-in_default
-unfolding row_of
-returns-in_default c = row-between _ c.if-command-lt7.false c.if-command-lt36.true c.in_default-1.rest
+returns-in_default c = row-between _ (omega arith) (omega arith) (search rules)
 
 pub returns-in_default-2 : goal.returns-in_default-2
-unfolding row_of
-returns-in_default-2 c = row-behind _ (omega arith) c.if-command-lt39.false c.in_default-1.rest
+returns-in_default-2 c = row-behind _ (omega arith) (omega arith) (search rules)

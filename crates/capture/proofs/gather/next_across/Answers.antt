@@ -9,15 +9,12 @@ use Rattle.capture.proofs.States.{left, carried-count, carried-incomplete}
 use Rattle.capture.proofs.Padding.{padded-behind}
 use Rattle.capture.proofs.Twelve.{up-to-twelve}
 use Rattle.capture.proofs.gather.next_across.Goals as goal
-use Rattle.capture.proofs.gather.next_across.Goals.{After-placed-bytes, Start}
+use Rattle.capture.proofs.gather.next_across.Goals.{After-placed-bytes}
 
-few : (c : Start) → c.args.carried.count ≤ 11
-few c = (left _ c.requires.0).few
-
-long : (c : Start) → length c.args.carried.bytes ≡ 12
+long : (c : After-placed-bytes) → length c.args.carried.bytes ≡ 12
 long c = search rules
 
-byte : (c : Start) (k : ℕ) → Fits w8 (get_or c.args.carried.bytes k 0)
+byte : (c : After-placed-bytes) (k : ℕ) → Fits w8 (get_or c.args.carried.bytes k 0)
 byte c k = search rules
 
 -- the bytes carried with m of the chunk behind them
@@ -28,79 +25,66 @@ gathered b l n m h g k e =
     ap (λ (x : List ℕ). take (n + m) x) e ∙ take_at (take n b ++ take m l) _ (n + m) q
 
 -- the bytes that the next telegram is taken from, and how many of the chunk they are
-abbrev start : tie.After-placed → tie.Start
-start c = c.before.before.before.before.before
-
 taken : (c : After-placed-bytes)
-    → let a = (start c).args in
+    → let a = c.args in
     let b = carried_in (state_of a.carried) ++ take c.smaller-m.result (drop a.at a.chunk.now) in
     (take (a.carried.count + c.smaller-m.result) c.placed-bytes.result ≡ b) × (length b ≡ a.carried.count + c.smaller-m.result)
 taken c =
-    let a = (start c).args in
+    let a = c.args in
     let k = c.smaller-m.result in
     let l = drop a.at a.chunk.now in
     let d : length l ≡ length a.chunk.now - a.at = length-drop a.at a.chunk.now in
     let e : a.at + k - a.at ≡ k = omega arith in (
-      gathered a.carried.bytes l a.carried.count k (long (start c)) (omega (arith, few (start c))) (omega arith) (rw e at c.placed-bytes.ensures),
-      simp (length-append, length-take) (omega (arith, few (start c), long (start c))),
+      gathered a.carried.bytes l a.carried.count k (long c) (omega (arith, (left _ c.requires.0).few)) (omega arith) (rw e at c.placed-bytes.ensures),
+      simp (length-append, length-take) (omega (arith, (left _ c.requires.0).few, long c)),
     )
 
 -- the count of the bytes carried, and that they are unfinished
-counted : (c : Start) → length (carried_in (state_of c.args.carried)) ≡ c.args.carried.count
+counted : (c : After-placed-bytes) → length (carried_in (state_of c.args.carried)) ≡ c.args.carried.count
 counted c = carried-count (state_of c.args.carried) (long c) c.requires.0
 
 asked : (c : After-placed-bytes)
-    → let a = (start c).args in
+    → let a = c.args in
     let n = a.carried.count + c.smaller-m.result in
     let r = c.placed-bytes.result in
     (a.carried.count ≤ n) × (n ≤ 12) × (padded (take n r) ≡ r) × (cutting (take a.carried.count r) ≡ incomplete) × (a.at + (n - a.carried.count) < 18446744073709551616)
 asked c =
-    let a = (start c).args in
+    let a = c.args in
     let s = state_of a.carried in
     let k = c.smaller-m.result in
     let l = drop a.at a.chunk.now in
     let r = c.placed-bytes.result in
     let t = taken c in
     let q : a.at + k - a.at ≡ k = omega arith in
-    let p : r ≡ padded (carried_in s ++ take k l) = rw q at c.placed-bytes.ensures ∙ padded-behind s (long (start c)) (start c).requires.0 (take k l) in
+    let p : r ≡ padded (carried_in s ++ take k l) = rw q at c.placed-bytes.ensures ∙ padded-behind s (long c) c.requires.0 (take k l) in
     let e : take a.carried.count r ≡ carried_in s =
     sym (take-take a.carried.count (a.carried.count + k) r (omega arith)) ∙ ap (λ (x : List ℕ). take a.carried.count x) t.0
-    ∙ take_at _ _ a.carried.count (counted (start c)) in (
+    ∙ take_at _ _ a.carried.count (counted c) in (
       omega arith,
-      omega (arith, few (start c)),
+      omega (arith, (left _ c.requires.0).few),
       ap padded t.0 ∙ sym p,
-      ap cutting e ∙ carried-incomplete s (start c).requires.0 (start c).requires.1,
+      ap cutting e ∙ carried-incomplete s c.requires.0 c.requires.1,
       omega arith,
     )
 
 -- each is a byte
-each : (c : After-placed-bytes) → let a = (start c).args in Bytes (carried_in (state_of a.carried) ++ drop a.at a.chunk.now)
+each : (c : After-placed-bytes) → let a = c.args in Bytes (carried_in (state_of a.carried) ++ drop a.at a.chunk.now)
 each c =
-    let a = (start c).args in
-    bytes-append (carried_in (state_of a.carried)) (drop a.at a.chunk.now) (bytes_take a.carried.count a.carried.bytes (λ i. (byte (start c) i).fits))
+    let a = c.args in
+    bytes-append (carried_in (state_of a.carried)) (drop a.at a.chunk.now) (bytes_take a.carried.count a.carried.bytes (λ i. (byte c i).fits))
     (bytes_drop a.at a.chunk.now (λ i. omega (arith, c.type_inv.chunk i)))
 
 pub overflow_sub-count : goal.overflow_sub-count
-overflow_sub-count c = omega (arith, few (goal.at.overflow_sub-count c).Start)
-
-pub overflow_add-end : goal.overflow_add-end
-overflow_add-end c = record { fits = omega arith }
-
-pub slice_bounds-placed-end : goal.slice_bounds-placed-end
-slice_bounds-placed-end c = let h : c.args.at + c.smaller-m.result ≤ length c.args.chunk.now = omega arith in
-    search rules
+overflow_sub-count c = omega (arith, (left _ c.requires.0).few)
 
 pub placed-bytes-requires : goal.placed-bytes-requires
-placed-bytes-requires c = simp length-take (omega (arith, few (goal.at.placed-bytes-requires c).Start))
-
-pub overflow_add-count : goal.overflow_add-count
-overflow_add-count c = record { fits = omega (arith, few (start c)) }
+placed-bytes-requires c = simp length-take (omega (arith, (left _ c.requires.0).few))
 
 pub next_in-requires : goal.next_in-requires
-next_in-requires c = asked c
+next_in-requires c = asked (goal.at.next_in-requires c).After-placed-bytes
 
 pub returns : goal.returns
-returns c = let a = (start (goal.at.returns c).After-placed-bytes).args in
+returns c = let a = c.args in
     let k = c.smaller-m.result in
     let s = state_of a.carried in
     let l = drop a.at a.chunk.now in
@@ -108,8 +92,8 @@ returns c = let a = (start (goal.at.returns c).After-placed-bytes).args in
     let t = taken (goal.at.returns c).After-placed-bytes in
     let e : a.carried.count + k - a.carried.count ≡ k = omega arith in
     let d : length l ≡ length a.chunk.now - a.at = length-drop a.at a.chunk.now in
-    let g : length (carried_in s) ≡ a.carried.count = counted (start (goal.at.returns c).After-placed-bytes) in
+    let g : length (carried_in s) ≡ a.carried.count = counted (goal.at.returns c).After-placed-bytes in
     c.next_in.ensures
     ∙ ap (λ (n : ℕ). next_cut (cutting u) u n s a.at) e
     ∙ ap (λ (x : List ℕ). next_cut (cutting x) x k s a.at) t.0
-    ∙ up-to-twelve (carried_in s) l (each (goal.at.returns c).After-placed-bytes) (omega (arith, few (start (goal.at.returns c).After-placed-bytes))) s a.at k (rw (g, d) c.smaller-m.ensures.0)
+    ∙ up-to-twelve (carried_in s) l (each (goal.at.returns c).After-placed-bytes) (omega (arith, (left _ c.requires.0).few)) s a.at k (rw (g, d) c.smaller-m.ensures.0)

@@ -1,6 +1,6 @@
 -- `capture::gather::placed` meets its contract: after i turns i bytes are put. Assumes nothing.
-use Rattle.std.proofs.Common.{◌≡◌, ℕ, ◌+◌, ◌-◌, ◌<◌, ◌≤◌, List, ◌++◌, length, get_or, take, drop, set, sym, refl, ap, ◌∙◌, add-one, arith, take_all, rules}
-use lib.Seq.{paste, paste-zero, paste-suc, length-paste, take-length}
+use Rattle.std.proofs.Common.{◌≡◌, ◌-◌, ◌≤◌, length}
+use lib.Seq.{paste}
 use Rattle.capture.proofs.gather.placed.Given as goal
 
 abbrev pub invariant-loop-i : goal.invariant-loop-i

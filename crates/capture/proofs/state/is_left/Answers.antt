@@ -1,14 +1,13 @@
 -- `capture::is_left` meets its contract: at each return the tests that led there pick the answer of `is_left`. Assumes nothing.
-use Rattle.std.proofs.Common.{◌≡◌, ℕ, Bool, true, false, ◌&&◌, eqb, drop, sym, refl, ap, ◌∙◌, arith, rules, eq-eqb, ne_eqb}
-use borrow.Author.Tests.{not-true, not-false}
+use Rattle.std.proofs.Common.{◌≡◌, ℕ, Bool, true, false, ◌&&◌, eqb, drop, sym, refl, ap, ◌∙◌, arith, eq-eqb, ne_eqb}
 use Rattle.telegram.specs.Numbers.{reason_of}
-use Rattle.capture.specs.State.{Standing, going, ended, stopped_for, standing_of, state_of, zeros}
+use Rattle.capture.specs.State.{going, ended, stopped_for, standing_of, zeros}
 use Rattle.capture.proofs.States.{left-many, left-dirty, left_by_lem}
 use Rattle.capture.proofs.state.is_left.Goals as goal
 use Rattle.capture.proofs.state.is_left.Goals.{Else-not-zero_from}
 
 tidy : (c : Else-not-zero_from) → zeros (drop c.args.s.count c.args.s.bytes) ≡ true
-tidy c = sym c.zero_from.ensures ∙ not-false _ c.if-not-zero_from.false
+tidy c = sym c.zero_from.ensures ∙ c.if-not-zero_from.false
 
 -- a reading that was stopped carries nothing and has a number from 1 to 5
 none : (n : ℕ) (x y : Bool) → n ≡ 0 → x ≡ y → x ≡ eqb n 0 && y
@@ -21,7 +20,7 @@ pub returns-then-n-gt11 : goal.returns-then-n-gt11
 returns-then-n-gt11 c = left-many _ c.if-n-gt11.true
 
 pub returns-then-not-zero_from : goal.returns-then-not-zero_from
-returns-then-not-zero_from c = left-dirty _ (omega arith) (sym c.zero_from.ensures ∙ not-true _ c.if-not-zero_from.true)
+returns-then-not-zero_from c = left-dirty _ (omega arith) (sym c.zero_from.ensures ∙ c.if-not-zero_from.true)
 
 pub returns-then-n-ne0 : goal.returns-then-n-ne0
 returns-then-n-ne0 c = some _ _ c.if-n-ne0.true

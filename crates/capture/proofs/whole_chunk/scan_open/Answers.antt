@@ -1,8 +1,8 @@
 -- `capture::whole_chunk::scan_open` meets its contract: what was counted, with the telegrams in the bytes left, are those of the chunk,
 -- and the bytes left lead to the same state. Assumes nothing.
-use Rattle.std.proofs.Common.{◌≡◌, ℕ, ◌+◌, ◌-◌, ◌<◌, ◌≤◌, true, List, [], length, get_or, drop, sym, refl, ap, ◌∙◌, subst, arith, drop_of_length-le, rules}
+use Rattle.std.proofs.Common.{◌≡◌, ℕ, ◌+◌, List, length, get_or, drop, sym, ap, ◌∙◌, subst, arith}
 use Rattle.capture.specs.declared.Reading.{Reading}
-use Rattle.capture.specs.State.{going, standing_of, State, state_of, is_left}
+use Rattle.capture.specs.State.{going, standing_of, State, state_of}
 use Rattle.capture.specs.Run.{fed, given, run, telegrams_in}
 use Rattle.capture.specs.Uncut.{Final}
 use Rattle.capture.proofs.Feeding.{Tells, tells}
@@ -10,84 +10,29 @@ use Rattle.capture.proofs.Scanning.{halted, run-next, telegrams-next}
 use Rattle.capture.proofs.whole_chunk.scan_open.Goals as goal
 use Rattle.capture.proofs.whole_chunk.scan_open.Goals.{After-feed-s}
 
--- what each loop keeps, from its own start on
-abbrev Keeps : List ℕ → Reading → ℕ → ℕ → Reading → ℕ → ℕ → Type 0
-Keeps chunk s₀ i₀ n₀ s i n =
-    (is_left (state_of s) ≡ true) × (standing_of s.phase ≡ going) × (i₀ ≤ i) × (n ≤ i) × (i ≤ length chunk)
-    × (n + length (telegrams_in (state_of s) (drop i chunk)) ≡ n₀ + length (telegrams_in (state_of s₀) (drop i₀ chunk)))
-    × (run (state_of s) (drop i chunk) ≡ run (state_of s₀) (drop i₀ chunk))
-
 -- the telegrams that a byte completed, by the state that it left
 told : (r : Reading) (b : ℕ) {z : State} → standing_of r.phase ≡ going → z ≡ fed (state_of r) b → Tells (given (state_of r) b) z
 told r b o e = subst (λ (x : State). Tells (given (state_of r) b) x) (sym e) (tells (state_of r) b o)
 
 -- a byte that stopped the reading: nothing of what is left is read
-halting : (f : tie.After-feed invariant-loop decreases-loop invariant-telegrams decreases-telegrams) → Final (standing_of f.feed.result.phase)
-    → let p = f.before.before.before in
-    let s = state_of p.before.before.before.args.carried in
-    let chunk = p.before.before.before.args.chunk.now in
-    (p.loop.n ≡ length (telegrams_in s chunk)) × ((f.feed.result.position ≡ (run s chunk).position) × (state_of f.feed.result ≡ run s chunk))
-halting f final =
-    let p = f.before.before.before in
-    let l = p.loop in
-    let t = p.before.telegrams in
-    let chunk = p.before.before.before.args.chunk.now in
+halting : (c : After-feed-s) → let z = c.feed-s.result in Final (standing_of z.phase)
+    → let s = state_of c.args.carried in
+    let chunk = c.args.chunk.now in
+    (c.loop-i.n ≡ length (telegrams_in s chunk)) × ((z.position ≡ (run s chunk).position) × (state_of z ≡ run s chunk))
+halting c final =
+    let l = c.loop-i in
+    let t = c.telegrams in
+    let chunk = c.args.chunk.now in
     let s = state_of l.s in
-    let z = state_of f.feed.result in
-    let e = f.feed.ensures.0 in
+    let z = state_of c.feed-s.result in
+    let e = c.feed-s.ensures.0 in
     let a = ap (λ (x : List (List ℕ)). length x) ((told l.s (get_or chunk l.i 0) l.invariant.1 e).stop final) in
     let b = telegrams-next chunk l.i (omega arith) s z e in
     let w = halted z (drop (l.i + 1) chunk) final in
     let q = sym w.0 ∙ sym (run-next chunk l.i (omega arith) s z e) ∙ l.invariant.6 ∙ t.invariant.6 in
     (omega (arith, a, b, w.1, l.invariant.5, t.invariant.5), (ap (λ (x : State). x.position) q, q))
 
-pub telegrams-init : goal.telegrams-init
-telegrams-init c = (c.requires.0, c.requires.1, omega arith, omega arith, omega arith, refl, refl)
-
-pub loop-i-init : goal.loop-i-init
-loop-i-init c = (c.telegrams.invariant.0, c.telegrams.invariant.1, omega arith, omega arith, omega (arith, c.telegrams.invariant.4), refl, refl)
-
-pub feed-s-requires : goal.feed-s-requires
-feed-s-requires c = let l = c.loop-i in
-    (l.invariant.0, l.invariant.1)
-
-pub telegrams-preserved : goal.telegrams-preserved
-telegrams-preserved c = let l = c.loop-i in
-    let t = c.telegrams in
-    let chunk = c.args.chunk.now in
-    let s = state_of l.s in
-    let z = state_of c.feed-s.result in
-    let e = c.feed-s.ensures.0 in
-    let g : z.standing ≡ going = ap standing_of c.in-Open.is in
-    let a = (told l.s (get_or chunk l.i 0) l.invariant.1 e).one g c.if-s-eq0.true in
-    let b = telegrams-next chunk l.i (omega arith) s z e in
-    (c.feed-s.ensures.1, g, omega arith, omega arith, omega arith, omega (arith, a, b, l.invariant.5, t.invariant.5), sym (run-next chunk l.i (omega arith) s z e) ∙ l.invariant.6 ∙ t.invariant.6)
-
-pub loop-i-preserved : goal.loop-i-preserved
-loop-i-preserved c = let l = c.loop-i in
-    let chunk = c.args.chunk.now in
-    let s = state_of l.s in
-    let z = state_of c.feed-s.result in
-    let e = c.feed-s.ensures.0 in
-    let g : z.standing ≡ going = ap standing_of c.in-Open.is in
-    let a = ap (λ (x : List (List ℕ)). length x) ((told l.s (get_or chunk l.i 0) l.invariant.1 e).none g c.if-s-eq0.false) in
-    let b = telegrams-next chunk l.i (omega arith) s z e in
-    (c.feed-s.ensures.1, g, omega arith, omega arith, omega arith, omega (arith, a, b, l.invariant.5), sym (run-next chunk l.i (omega arith) s z e) ∙ l.invariant.6)
-
-pub returns-then-chunk-i : goal.returns-then-chunk-i
-returns-then-chunk-i c = let l = c.loop-i in
-    let t = c.telegrams in
-    let s = state_of l.s in
-    let chunk = c.args.chunk.now in
-    let h : length chunk ≤ l.i = c.if-chunk-i.true in
-    let d : drop l.i chunk ≡ [] = drop_of_length-le chunk h in
-    let a : length (telegrams_in s (drop l.i chunk)) ≡ 0 = ap (λ (x : List ℕ). length (telegrams_in s x)) d in
-    let r : s ≡ run s (drop l.i chunk) = ap (λ (x : List ℕ). run s x) (sym d) in
-    let q = r ∙ l.invariant.6 ∙ t.invariant.6 in
-    (omega (arith, a, l.invariant.5, t.invariant.5), (ap (λ (x : State). x.position) q, q))
-
-pub returns-in-Ended : goal.returns-in-Ended
-returns-in-Ended c = halting (goal.at.returns-in-Ended c).After-feed-s (subst Final (sym (ap standing_of c.in-Ended.is)) tt)
-
 pub returns-in-Stopped : goal.returns-in-Stopped
-returns-in-Stopped c = halting (goal.at.returns-in-Stopped c).After-feed-s (subst Final (sym (ap standing_of c.in-Stopped.is)) tt)
+returns-in-Stopped c =
+    let h = halting (goal.at.returns-in-Stopped c).After-feed-s (subst Final (sym (ap standing_of c.in-Stopped.is)) tt) in
+    record { telegrams_value = h.0; position_value = h.1 }

@@ -16,7 +16,7 @@ use Rattle.command.proofs.numbers.acknowledged_of.Goals.{In_default}
 
 -- the only number left for `_` is 6F
 pwm : (c : In_default) → c.args.n ≡ 0x6F
-pwm c = last-acknowledged c.args.n (omega arith) c.in_default.rest c.requires.0
+pwm c = last-acknowledged c.args.n (omega arith) (search rules) c.requires.0
 
 pub bounds-p-0 : goal.bounds-p-0
 unfolding layout_of row_of plain_number acknowledged

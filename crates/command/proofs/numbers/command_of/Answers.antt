@@ -28,7 +28,7 @@ unknown (done r) = false
 rest : (c : In_default) → acknowledged c.args.n ≡ true
 unfolding keys unknown row_of acknowledged
 rest c =
-    only-left unknown row_of keys acknowledged tt c.args.n (omega arith) c.in_default.rest (ap unknown (right-row c.args.n (length c.args.p.now) c.requires).1.0)
+    only-left unknown row_of keys acknowledged tt c.args.n (omega arith) (search rules) (ap unknown (right-row c.args.n (length c.args.p.now) c.requires).1.0)
 
 pub bounds-p-0 : goal.bounds-p-0
 unfolding layout_of row_of plain_number acknowledged

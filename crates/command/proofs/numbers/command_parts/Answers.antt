@@ -1,7 +1,6 @@
 -- `command::numbers::command_parts` meets its contract: an arm for each case.
 -- Assumes nothing.
 use mathlib.Core.Path.{◌∙◌, ap, sym}
-use borrow.Author.Rules.{rules}
 use Rattle.table.specs.Table.{acknowledged, plain_number}
 use Rattle.command.specs.Fields.{layout_of}
 use Rattle.command.specs.Commands.{message_of, laid_out}

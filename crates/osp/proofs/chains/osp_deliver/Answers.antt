@@ -11,7 +11,7 @@ use Rattle.osp.proofs.chains.osp_deliver.Goals as goal
 
 pub delivered_returned-requires : goal.delivered_returned-requires
 delivered_returned-requires c = let a = c.args in
-    let n = length a.out.now in counted-short (delivered a.mem.now a.s.now n).outcome (short-delivered a.mem.now a.s.now n) c.deliver.ensures.0
+    let n = length a.out.now in counted-short (delivered a.mem.now a.s.now n).outcome (short-delivered a.mem.now a.s.now n) c.deliver.ensures.answer
 
 pub returns : goal.returns
-returns c = (c.delivered_returned.ensures ∙ ap packed c.deliver.ensures.0, c.deliver.ensures.1)
+returns c = record { value = c.delivered_returned.ensures ∙ ap packed c.deliver.ensures.answer; mem_after = c.deliver.ensures.memory; out_after = c.deliver.ensures.room }

@@ -10,13 +10,17 @@ use Rattle.osp.proofs.chains.osp_lamp.Goals as goal
 
 pub returns-in-Read : goal.returns-in-Read
 unfolding osp_lamp
-returns-in-Read c = told_same returned _
+returns-in-Read c =
+    let p = told_same returned _
     (sym (after-done _ _ (sym c.read_lamp-r.ensures ∙ ap lamp_read_as c.in-Read.is)))
-    c.give_lamp.ensures.0
-    c.give_lamp.ensures.1
+    c.give_lamp.ensures.value
+    c.give_lamp.ensures.out_after in
+    record { value = p.0; out_after = p.1 }
 
 pub returns-in-Unread : goal.returns-in-Unread
 unfolding osp_lamp
-returns-in-Unread c = told-refused returned _ _
+returns-in-Unread c =
+    let p = told-refused returned _ _
     (after-refused _ _ (sym c.read_lamp-r.ensures ∙ ap lamp_read_as c.in-Unread.is))
-    c.refusal_returned.ensures
+    c.refusal_returned.ensures in
+    record { value = p.0; out_after = p.1 }

@@ -10,7 +10,7 @@ use Rattle.osp.proofs.chains.osp_make.Goals as goal
 
 pub delivered_returned-requires : goal.delivered_returned-requires
 delivered_returned-requires c = let a = c.args in
-    silent-short (made a.mem.now a.count (defaults_from a.setup a.t0 a.t1 a.t2)) c.make.ensures.0
+    silent-short (made a.mem.now a.count (defaults_from a.setup a.t0 a.t1 a.t2)) c.make.ensures.answer
 
 pub returns : goal.returns
-returns c = (c.delivered_returned.ensures ∙ ap packed c.make.ensures.0, c.make.ensures.1)
+returns c = record { value = c.delivered_returned.ensures ∙ ap packed c.make.ensures.answer; mem_after = c.make.ensures.memory }

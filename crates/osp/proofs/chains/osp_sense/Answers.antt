@@ -9,7 +9,7 @@ use Rattle.osp.proofs.chains.osp_sense.Goals as goal
 
 pub delivered_returned-requires : goal.delivered_returned-requires
 delivered_returned-requires c = let a = c.args in
-    silent-short (sensed_in a.mem.now a.place a.temperature a.faults) c.sense.ensures.0
+    silent-short (sensed_in a.mem.now a.place a.temperature a.faults) c.sense.ensures.answer
 
 pub returns : goal.returns
-returns c = (c.delivered_returned.ensures ∙ ap packed c.sense.ensures.0, c.sense.ensures.1)
+returns c = record { value = c.delivered_returned.ensures ∙ ap packed c.sense.ensures.answer; mem_after = c.sense.ensures.memory }

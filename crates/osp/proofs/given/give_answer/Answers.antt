@@ -35,9 +35,11 @@ give-requires c = let k = answer-short c.args.d.answer in
     omega (arith, parts-taken (laid (goal.at.give-requires c).After-answer_parts-parts), parts-short (laid (goal.at.give-requires c).After-answer_parts-parts) k)
 
 pub returns : goal.returns
-returns c = let a = c.args in
-    told_same returned a.out.now
+returns c =
+    let a = c.args in
+    let p = told_same returned a.out.now
     (ap (fitted (length a.out.now))
     (reply-bytes (reply_of a.d) (laid (goal.at.returns c).After-answer_parts-parts) c.high.ensures c.low.ensures c.size_byte.ensures))
-    c.give.ensures.0
-    c.give.ensures.1
+    c.give.ensures.value
+    c.give.ensures.out_after in
+    record { value = p.0; out_after = p.1 }

@@ -36,10 +36,12 @@ give-requires c = let k = command-short c.args.d.command in
     omega (arith, parts-taken (laid (goal.at.give-requires c).After-command_parts-parts), parts-short (laid (goal.at.give-requires c).After-command_parts-parts) k)
 
 pub returns : goal.returns
-returns c = let a = c.args in
-    told_same returned a.out.now
+returns c =
+    let a = c.args in
+    let p = told_same returned a.out.now
     (ap (fitted (length a.out.now))
-    (sent-bytes (sent_as a.d) (laid (goal.at.returns c).After-command_parts-parts) c.value_of_lem.result c.kind_of.ensures c.value_of_lem.ensures
+    (sent-bytes (sent_as a.d) (laid (goal.at.returns c).After-command_parts-parts) c.value_of-value.result c.kind_of.ensures c.value_of-value.ensures
     c.high.ensures c.low.ensures c.size_byte.ensures))
-    c.give.ensures.0
-    c.give.ensures.1
+    c.give.ensures.value
+    c.give.ensures.out_after in
+    record { value = p.0; out_after = p.1 }

@@ -1,14 +1,14 @@
 -- `osp::telegrams::osp_build_pwm` meets its contract.
 -- Assumes nothing.
 use mathlib.Core.Path.{◌≡◌, ◌∙◌, refl, sym, ap}
-use borrow.Author.Rules.{rules}
+use native.Mathlib.Omega.{arith}
 use lib.ListN.{length}
 use Rattle.telegram.proofs.Outcomes.{after-refused, after-done, told-refused, told_same}
 use Rattle.command.specs.Commands.{Message, message_of, building_command}
 use Rattle.command.specs.declared.Command.TheVariants.{SetPwm}
 use Rattle.reader.specs.Interface.{packed, returned}
 use Rattle.osp.specs.Interface.{directed_as, building_directed, pwm_message, osp_build_pwm}
-use Rattle.osp.proofs.BuildPwm.{modes-out, red-out, green-out, blue-out, pwm-directed, pwm-message}
+use Rattle.osp.proofs.BuildPwm.{pwm-directed, pwm-message}
 use Rattle.osp.proofs.Giving.{count-short, command-built-short}
 use Rattle.osp.proofs.telegrams.osp_build_pwm.Goals as goal
 use Rattle.osp.proofs.telegrams.osp_build_pwm.Goals.{After-pwm_of_mode-b, Else-blue-gt32767}
@@ -27,39 +27,29 @@ directed : (c : Else-blue-gt32767) →
     let a = c.args in
     osp_build_pwm a.cast a.value a.modes a.red a.green a.blue (length a.out.now)
     ≡ building_directed (pwm_message a.modes a.red a.green a.blue) a.cast a.value (length a.out.now)
-directed c = pwm-directed _ _ _ _ _ _ _ c.if-modes-gt7.false c.if-red-gt32767.false c.if-green-gt32767.false c.if-blue-gt32767.false
-
-pub returns-then-modes-gt7 : goal.returns-then-modes-gt7
-unfolding building_directed
-returns-then-modes-gt7 c = told-refused returned _ _ (modes-out _ _ _ _ _ _ _ c.if-modes-gt7.true) refl
-
-pub returns-then-red-gt32767 : goal.returns-then-red-gt32767
-unfolding building_directed
-returns-then-red-gt32767 c = told-refused returned _ _ (red-out _ _ _ _ _ _ _ c.if-modes-gt7.false c.if-red-gt32767.true) refl
-
-pub returns-then-green-gt32767 : goal.returns-then-green-gt32767
-unfolding building_directed
-returns-then-green-gt32767 c = told-refused returned _ _ (green-out _ _ _ _ _ _ _ c.if-modes-gt7.false c.if-red-gt32767.false c.if-green-gt32767.true) refl
-
-pub returns-then-blue-gt32767 : goal.returns-then-blue-gt32767
-unfolding building_directed
-returns-then-blue-gt32767 c = told-refused returned _ _ (blue-out _ _ _ _ _ _ _ c.if-modes-gt7.false c.if-red-gt32767.false c.if-green-gt32767.false c.if-blue-gt32767.true) refl
+directed c =
+    let a = c.args in
+    pwm-directed a.cast a.value a.modes a.red a.green a.blue (length a.out.now) (omega arith) (omega arith) (omega arith) (omega arith)
 
 pub returns-in_default : goal.returns-in_default
 unfolding building_directed
-returns-in_default c = told-refused returned _ _
+returns-in_default c =
+    let p = told-refused returned _ _
     (directed (goal.at.returns-in_default c).Else-blue-gt32767 ∙ after-refused _ _ (sym c.cast_from-to.ensures ∙ ap directed_as c.in_default.is))
-    refl
+    refl in
+    record { value = p.0; out_after = p.1 }
 
 pub built_returned-requires : goal.built_returned-requires
 unfolding building_directed
-built_returned-requires c = count-short c.build_pwm.result _ c.build_pwm.ensures.0
+built_returned-requires c = count-short c.build_pwm.result _ c.build_pwm.ensures.result_value
     (command-built-short (SetPwm c.pwm_of_mode-r.result c.pwm_of_mode-g.result c.pwm_of_mode-b.result) c.in-To.cast (length c.args.out.now))
 
 pub returns : goal.returns
 unfolding building_directed
-returns c = told_same returned _
+returns c =
+    let p = told_same returned _
     (ap (λ (m : Message). building_command m c.in-To.cast (length c.args.out.now)) (message (goal.at.returns c).After-pwm_of_mode-b)
     ∙ sym (directed (goal.at.returns c).Else-blue-gt32767 ∙ after-done _ _ (sym c.cast_from-to.ensures ∙ ap directed_as c.in-To.is)))
-    (c.built_returned.ensures ∙ ap packed c.build_pwm.ensures.0)
-    c.build_pwm.ensures.1
+    (c.built_returned.ensures ∙ ap packed c.build_pwm.ensures.result_value)
+    c.build_pwm.ensures.out_after in
+    record { value = p.0; out_after = p.1 }

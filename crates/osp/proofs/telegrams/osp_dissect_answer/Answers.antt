@@ -10,13 +10,17 @@ use Rattle.osp.proofs.telegrams.osp_dissect_answer.Goals as goal
 
 pub returns-in-Accepted : goal.returns-in-Accepted
 unfolding osp_dissect_answer
-returns-in-Accepted c = told_same returned _
+returns-in-Accepted c =
+    let p = told_same returned _
     (sym (after-done _ _ (sym c.dissect_answer-r.ensures ∙ ap reply_as c.in-Accepted.is)))
-    c.give_answer.ensures.0
-    c.give_answer.ensures.1
+    c.give_answer.ensures.value
+    c.give_answer.ensures.out_after in
+    record { value = p.0; out_after = p.1 }
 
 pub returns-in-Refused : goal.returns-in-Refused
 unfolding osp_dissect_answer
-returns-in-Refused c = told-refused returned _ _
+returns-in-Refused c =
+    let p = told-refused returned _ _
     (after-refused _ _ (sym c.dissect_answer-r.ensures ∙ ap reply_as c.in-Refused.is))
-    c.refusal_returned.ensures
+    c.refusal_returned.ensures in
+    record { value = p.0; out_after = p.1 }

@@ -18,17 +18,21 @@ read_is c = sym c.read_telegram-r.ensures ∙ ap read_as c.in-Accepted.is
 
 pub returns-in_default : goal.returns-in_default
 unfolding osp_read
-returns-in_default c = told-refused returned _ _
+returns-in_default c =
+    let p = told-refused returned _ _
     (after-refused _ _ (refusal_is _ _ c.read_telegram-r.ensures c.in_default.is c.refusal_of.ensures))
-    c.refusal_returned.ensures
+    c.refusal_returned.ensures in
+    record { value = p.0; out_after = p.1 }
 
 pub give_telegram-requires : goal.give_telegram-requires
 unfolding osp_read
 give_telegram-requires c = (
-      omega (arith, accepted-count _ _ (read_is (goal.at.give_telegram-requires c).In-Accepted)),
-      accepted-size _ _ (λ i. omega (arith, c.type_inv.s i)) (read_is (goal.at.give_telegram-requires c).In-Accepted),
-    )
+  omega (arith, accepted-count _ _ (read_is (goal.at.give_telegram-requires c).In-Accepted)),
+  accepted-size _ _ (λ i. omega (arith, c.type_inv.s i)) (read_is (goal.at.give_telegram-requires c).In-Accepted),
+)
 
 pub returns : goal.returns
 unfolding osp_read
-returns c = told_same returned _ (sym (after-done _ _ (read_is (goal.at.returns c).In-Accepted))) c.give_telegram.ensures.0 c.give_telegram.ensures.1
+returns c =
+    let p = told_same returned _ (sym (after-done _ _ (read_is (goal.at.returns c).In-Accepted))) c.give_telegram.ensures.value c.give_telegram.ensures.out_after in
+    record { value = p.0; out_after = p.1 }

@@ -1,5 +1,5 @@
 -- `reader::found::any_state` meets its contract: each part of the state is read where it lies. Assumes nothing.
-use Rattle.std.proofs.Common.{◌≡◌, ℕ, Bool, true, false, not, List, sym, ap, ◌∙◌, arith, rules}
+use Rattle.std.proofs.Common.{◌≡◌, ℕ, Bool, true, false, not, List, sym, ap, ◌∙◌, arith}
 use borrow.Author.Tests.{not-true, not-false}
 use Rattle.telegram.specs.Numbers.{Outcome, done, refuse}
 use Rattle.capture.specs.State.{Standing, standing_of, State}

@@ -1,5 +1,5 @@
 -- `reader::found::open_state` meets its contract. Assumes nothing.
-use Rattle.std.proofs.Common.{◌≡◌, ℕ, List, get_or, sym, ap, ◌∙◌, rules}
+use Rattle.std.proofs.Common.{◌≡◌, ℕ, List, get_or, sym, ap, ◌∙◌}
 use Rattle.telegram.specs.Numbers.{done}
 use Rattle.capture.specs.State.{going, State}
 use Rattle.reader.specs.Layout.{standing_in, stands_in}

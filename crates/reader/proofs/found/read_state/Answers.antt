@@ -1,5 +1,5 @@
 -- `reader::found::read_state` meets its contract. Assumes nothing.
-use Rattle.std.proofs.Common.{◌∙◌, rules}
+use Rattle.std.proofs.Common.{◌∙◌}
 use Rattle.reader.proofs.States.{state-short}
 use Rattle.reader.proofs.found.read_state.Goals as goal
 

@@ -1,22 +1,13 @@
 -- `reader::passing::read_at` meets its contract: what is accepted has the length that its index says. Assumes nothing.
-use Rattle.std.proofs.Common.{◌≡◌, ℕ, ◌+◌, ◌-◌, length, take, drop, sym, ◌∙◌, subst, arith, length-drop, length-take-le, rules}
+use Rattle.std.proofs.Common.{◌≡◌, ℕ, ◌+◌, ◌-◌, length, take, drop, sym, ◌∙◌, subst, arith, length-drop, length-take-le}
 use Rattle.telegram.specs.Numbers.{done}
 use Rattle.telegram.specs.Telegram.{reading}
-use Rattle.telegram.proofs.Outcomes.{never}
 use Rattle.telegram.proofs.Reading.{accepted-count}
 use Rattle.reader.proofs.passing.read_at.Goals as goal
 
-pub index_in-index-requires : goal.index_in-index-requires
-index_in-index-requires c = absurd (never e)
-
-pub size_of-total-requires : goal.size_of-total-requires
-size_of-total-requires c = absurd (never e)
-
-pub read_telegram-requires : goal.read_telegram-requires
-read_telegram-requires c = absurd (never e)
-
 pub returns : goal.returns
-returns c = let l = drop c.args.at c.args.chunk.now in
+returns c t e =
+    let l = drop c.args.at c.args.chunk.now in
     let k = c.args.at + (4 + c.size_of-total.result) - c.args.at in
     let q : reading (take k l) ≡ done t = sym c.read_telegram.ensures ∙ e in
     let d : length l ≡ length c.args.chunk.now - c.args.at = length-drop c.args.at c.args.chunk.now in
