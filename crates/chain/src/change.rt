@@ -112,6 +112,7 @@ fn is_member(g: u8, groups: u16) -> bool
 }
 
 // Whether a command reaches a lamp.
+#[tactic(auto, unfolding(rules::specs::Lamp::member))]
 fn is_reached(reach: Reach, l: Lamp) -> bool
     requires { reach_fits reach ≡ true }
     ensures { result ≡ reached reach l }

@@ -57,6 +57,7 @@ fn answer_last(mem: &[u8], count: usize, a: Address, n: u8, room: &mut [u8]) -> 
 }
 
 // Whether a number is an init's.
+#[tactic(auto, unfolding(rules::specs::Chain::is_init))]
 pub(crate) fn is_init(n: u8) -> bool
     ensures { result ≡ is_init n }
 {

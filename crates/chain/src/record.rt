@@ -74,6 +74,7 @@ pub(crate) fn store_lamp(mem: &mut [u8], p: Place, l: Lamp)
 }
 
 // The lamp count in a header.
+#[tactic(auto, unfolding(crate::specs::Record::count_of))]
 pub(crate) fn count_of(mem: &[u8]) -> usize
     requires { header_size ≤ length mem.now }
     ensures { result ≡ count_of mem.now }
@@ -84,6 +85,7 @@ pub(crate) fn count_of(mem: &[u8]) -> usize
 }
 
 // The defaults in a header.
+#[tactic(auto, unfolding(crate::specs::Record::defaults_of))]
 pub(crate) fn defaults_of(mem: &[u8]) -> Defaults
     requires { header_size ≤ length mem.now }
     ensures { result ≡ defaults_of mem.now }
@@ -99,6 +101,7 @@ pub(crate) fn defaults_of(mem: &[u8]) -> Defaults
 }
 
 // Writes a header.
+#[tactic(auto, unfolding(crate::specs::Record::header_of))]
 pub(crate) fn put_header(mem: &mut [u8], count: usize, d: Defaults)
     requires { (count ≤ 1007) × (header_size ≤ length mem.old) }
     ensures { mem.new ≡ header_of count d ++ drop header_size mem.old }

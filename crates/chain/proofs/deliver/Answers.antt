@@ -21,9 +21,6 @@ returns-then-room-lt12 c = left_as _ (deliver-room _ _ _ (omega arith)) refl ref
 pub returns-then-not-is_valid : goal.returns-then-not-is_valid
 returns-then-not-is_valid c = left_as _ (deliver-invalid _ _ _ (omega arith) (chain-no _ c.is_valid.result c.is_valid.ensures c.if-not-is_valid.true)) refl refl refl
 
-pub deliver_valid-requires : goal.deliver_valid-requires
-deliver_valid-requires c = (holds (goal.at.deliver_valid-requires c).Else-not-is_valid, (omega arith))
-
 pub returns : goal.returns
 returns c = let e = c.deliver_valid.ensures in
     left_as _ (deliver-walks _ _ _ (omega arith) (holds (goal.at.returns c).Else-not-is_valid)) e.answer e.memory e.room

@@ -19,14 +19,6 @@ pub returns-then-mem-length : goal.returns-then-mem-length
 returns-then-mem-length c = let e = c.record_len-length.ensures in
     held-refused _ _ (made-room _ _ _ (count-known c.args.count e c.if-length-eq0.false) (omega (arith, length-known c.args.count e c.if-length-eq0.false)))
 
-pub put_header-requires : goal.put_header-requires
-put_header-requires c = let e = c.record_len-length.ensures in
-    let h = c.if-length-eq0.false in
-    (count_most _ (count-known c.args.count e h), omega (arith, length-known c.args.count e h))
-
-pub fill-requires : goal.fill-requires
-fill-requires c = omega (arith, length-known c.args.count c.record_len-length.ensures c.if-length-eq0.false)
-
 pub returns : goal.returns
 returns c = let a = c.args in
     let e = c.record_len-length.ensures in

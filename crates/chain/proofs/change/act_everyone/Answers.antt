@@ -18,10 +18,6 @@ swept_at : (mem : List ℕ) (count : ℕ) (d : Defaults) (p : List ℕ) {n k : �
     → sweep (λ (q : ℕ) (l : Lamp). acted d (command_in k p) l) 0 count mem ≡ sweep (λ (q : ℕ) (l : Lamp). acted d (command_in n p) l) 0 count mem
 swept_at mem count d p e = ap (λ (x : ℕ). sweep (λ (q : ℕ) (l : Lamp). acted d (command_in x p) l) 0 count mem) (sym e)
 
-pub act_lamps-requires : goal.act_lamps-requires
-unfolding changed_plain acted plain_number acknowledged
-act_lamps-requires c = (c.requires.0, sym (ap (λ (n : ℕ). size_right n (length c.args.payload.now)) c.in-79.is) ∙ c.requires.1, refl)
-
 pub returns-in-4 : goal.returns-in-4
 unfolding changed_plain acted plain_number acknowledged
 returns-in-4 c = let a = c.args in
@@ -36,8 +32,3 @@ pub returns-in-6 : goal.returns-in-6
 unfolding changed_plain acted plain_number acknowledged
 returns-in-6 c = let a = c.args in
     c.go_lamps-in-6.ensures ∙ swept_at a.mem.now a.count a.d a.payload.now c.in-6.is
-
-pub returns-in-79 : goal.returns-in-79
-unfolding changed_plain acted plain_number acknowledged
-returns-in-79 c = let a = c.args in
-    c.act_lamps.ensures ∙ swept_at a.mem.now a.count a.d a.payload.now c.in-79.is

@@ -9,12 +9,6 @@ use Rattle.chain.specs.Helpers.{command_in}
 use Rattle.chain.proofs.Sweeps.{Swept, swept_none, swept-more, swept_all}
 use Rattle.chain.proofs.change.act_lamps.Goals as goal
 
-pub loop-i-init : goal.loop-i-init
-loop-i-init c = swept_none _ _ _
-
-pub act_reached-requires : goal.act_reached-requires
-act_reached-requires c = (omega arith, c.requires.1, c.requires.2)
-
 pub loop-i-preserved : goal.loop-i-preserved
 loop-i-preserved c = let l = c.loop-i in
     swept-more _ _ _ l.i l.mem l.invariant c.loop-i-test.true c.act_reached.ensures c.act_reached.auto.mem

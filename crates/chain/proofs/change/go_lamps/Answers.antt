@@ -8,9 +8,6 @@ use Rattle.chain.specs.Places.{gone}
 use Rattle.chain.proofs.Sweeps.{Swept, swept_none, swept-more, swept_all}
 use Rattle.chain.proofs.change.go_lamps.Goals as goal
 
-pub loop-i-init : goal.loop-i-init
-loop-i-init c = swept_none _ _ _
-
 pub loop-i-preserved : goal.loop-i-preserved
 loop-i-preserved c = let l = c.loop-i in
     swept-more _ _ _ l.i l.mem l.invariant c.loop-i-test.true c.go_one.ensures c.go_one.auto.mem

@@ -7,15 +7,6 @@ use Rattle.chain.proofs.Exits.{answer-none, answer-built}
 use borrow.Author.Rules.{rules}
 use Rattle.chain.proofs.delivery.answer.Goals as goal
 
-pub returns-then-size-eq0 : goal.returns-then-size-eq0
-returns-then-size-eq0 c = answer-none _ _ _ c.args.payload.bytes c.if-size-eq0.true
-
-pub slice_bounds-bytes-end : goal.slice_bounds-bytes-end
-slice_bounds-bytes-end c = c.requires.3
-
-pub slice_bounds-build_telegram-end : goal.slice_bounds-build_telegram-end
-slice_bounds-build_telegram-end c = sym (length-take-le _ _ c.requires.3)
-
 pub returns : goal.returns
 returns c = let a = c.args in
     let l = length-take-le a.payload.size a.payload.bytes c.requires.3 in

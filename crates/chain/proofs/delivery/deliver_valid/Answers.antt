@@ -55,10 +55,6 @@ unnamed c =
     let r = read_is s c.read_telegram-read.ensures c.in-Accepted.is in
     sym (ap (heading_as s t) (sym c.in-Refused.is) ∙ c.heading_of-heading.ensures s ∙ dissect-named s r)
 
-pub refuse-requires : goal.refuse-requires
-unfolding responded_in refused_in
-refuse-requires c = c.requires.0
-
 pub returns-in_default : goal.returns-in_default
 unfolding responded_in refused_in
 returns-in_default c = let a = c.args in
@@ -67,14 +63,6 @@ returns-in_default c = let a = c.args in
 pub overflow_add-end : goal.overflow_add-end
 unfolding responded_in refused_in
 overflow_add-end c = omega (arith, accepted-count _ _ (read_is _ c.read_telegram-read.ensures c.in-Accepted.is))
-
-pub slice_bounds-respond-count : goal.slice_bounds-respond-count
-unfolding responded_in refused_in
-slice_bounds-respond-count c = omega (arith, accepted-count _ _ (read_is _ c.read_telegram-read.ensures c.in-Accepted.is))
-
-pub slice_bounds-respond-start : goal.slice_bounds-respond-start
-unfolding responded_in refused_in
-slice_bounds-respond-start c = omega (arith, accepted-count _ _ (read_is _ c.read_telegram-read.ensures c.in-Accepted.is))
 
 pub slice_bounds-respond-end : goal.slice_bounds-respond-end
 unfolding responded_in refused_in
@@ -85,10 +73,6 @@ unfolding responded_in refused_in
 respond-requires c = let r = read_is _ c.read_telegram-read.ensures c.in-Accepted.is in
     let p = c.requires in
     (p.0, headed-size _ _ _ (heading-is (goal.at.respond-requires c).In-To) (omega (arith, accepted-count _ _ r)), accepted-number _ _ r, accepted-cast _ _ (sent_is (goal.at.respond-requires c).In-To), p.1)
-
-pub refuse-requires-in-Refused : goal.refuse-requires-in-Refused
-unfolding responded_in refused_in
-refuse-requires-in-Refused c = c.requires.0
 
 pub returns-in-To : goal.returns-in-To
 unfolding responded_in refused_in

@@ -21,13 +21,6 @@ permitted c e =
     let a = c.args in
     sym (c.permit-permitted.ensures a.payload.now) ∙ ap (λ (r : Permit). permit_as r (sent_in a.n a.payload.now a.cast)) e
 
-pub permit-permitted-requires : goal.permit-permitted-requires
-permit-permitted-requires c = (c.requires.0, c.requires.3)
-
-pub send-requires : goal.send-requires
-send-requires c = let p = c.requires in
-    (p.0, p.1, p.2, p.3, permitted (goal.at.send-requires c).After-permit-permitted c.in-Granted.is, p.4)
-
 pub returns-in-Granted : goal.returns-in-Granted
 returns-in-Granted c = let a = c.args in
     told-as a.mem.now a.room.now

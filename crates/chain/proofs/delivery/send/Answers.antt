@@ -42,23 +42,6 @@ pub returns-then-is_init : goal.returns-then-is_init
 returns-then-is_init c = let a = c.args in
     told-as a.mem.now a.room.now (sym (walked-init a.mem.now (sent_in a.n a.payload.now a.cast) (init (goal.at.returns-then-is_init c).Then-is_init))) c.initialise.ensures
 
-pub spread-requires : goal.spread-requires
-spread-requires c = (c.requires.0, c.requires.1, refl)
-
-pub unicast-requires : goal.unicast-requires
-unicast-requires c = let p = c.requires in
-    let a = c.in-One.a in
-    let r : cast_in_range (One a) ≡ true = subst (λ (x : Cast). cast_in_range x ≡ true) c.in-One.is p.3 in
-    let h : a.0 ≤ 0x3EF = leb-true a.0 0x3EF (and_right (leb 1 a.0) _ r) in
-    (p.0, p.1, p.2, omega arith, p.5)
-
-pub spread-requires-in-Group : goal.spread-requires-in-Group
-spread-requires-in-Group c = let p = c.requires in
-    let g = c.in-Group.g in
-    let r : cast_in_range (Group g) ≡ true = subst (λ (x : Cast). cast_in_range x ≡ true) c.in-Group.is p.3 in
-    let h : g ≤ 14 = leb-true g 14 r in
-    (p.0, p.1, lt-ltb g 16 (omega arith))
-
 pub returns-in-Everyone : goal.returns-in-Everyone
 returns-in-Everyone c = let a = c.args in
     told-as a.mem.now a.room.now (plain (goal.at.returns-in-Everyone c).Else-is_init c.in-Everyone.is) (reached-done a.mem.now (command_in a.n a.payload.now) All a.room.now c.spread.ensures)

@@ -7,9 +7,6 @@ use Rattle.rules.specs.declared.Lamp.{Lamp}
 use Rattle.chain.proofs.Sweeps.{Swept, swept_none, swept-more, swept_all}
 use Rattle.chain.proofs.each_lamp.fill.Goals as goal
 
-pub loop-i-init : goal.loop-i-init
-loop-i-init c = swept_none _ _ _
-
 pub loop-i-preserved : goal.loop-i-preserved
 loop-i-preserved c = let l = c.loop-i in
     swept-more _ _ _ l.i l.mem l.invariant c.loop-i-test.true c.store_lamp.ensures c.store_lamp.auto.mem

@@ -9,9 +9,6 @@ use Rattle.rules.specs.Lamp.{with_ce}
 use Rattle.chain.proofs.Sweeps.{Swept, swept_none, swept-more, swept_all}
 use Rattle.chain.proofs.each_lamp.mark_lamps.Goals as goal
 
-pub loop-i-init : goal.loop-i-init
-loop-i-init c = swept_none _ _ _
-
 pub loop-i-preserved : goal.loop-i-preserved
 loop-i-preserved c = let l = c.loop-i in
     swept-more _ _ _ l.i l.mem l.invariant c.loop-i-test.true c.mark_one.ensures c.mark_one.auto.mem

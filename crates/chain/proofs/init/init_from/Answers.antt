@@ -18,10 +18,6 @@ pub count_of-count-requires : goal.count_of-count-requires
 unfolding decode
 count_of-count-requires c = omega (arith, (valid (goal.at.count_of-count-requires c).Start).room)
 
-pub overflow_add-last : goal.overflow_add-last
-unfolding decode
-overflow_add-last c = omega (arith, (valid (goal.at.overflow_add-last c).Start).most, c.count_of-count.ensures)
-
 pub overflow_sub-last : goal.overflow_sub-last
 unfolding decode
 overflow_sub-last c = omega (arith, (valid (goal.at.overflow_sub-last c).Start).some, c.count_of-count.ensures)
@@ -29,10 +25,6 @@ overflow_sub-last c = omega (arith, (valid (goal.at.overflow_sub-last c).Start).
 pub number_lamps-requires : goal.number_lamps-requires
 unfolding decode
 number_lamps-requires c = (omega (arith, (valid (goal.at.number_lamps-requires c).Start).room, c.count_of-count.ensures), omega (arith, c.requires.3, c.count_of-count.ensures))
-
-pub overflow_cast-last-2 : goal.overflow_cast-last-2
-unfolding decode
-overflow_cast-last-2 c = omega (arith, c.requires.3, c.count_of-count.ensures)
 
 pub answer_last-requires : goal.answer_last-requires
 unfolding decode

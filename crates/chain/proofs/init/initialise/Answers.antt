@@ -22,26 +22,12 @@ permitted : {cast : Cast} (c : Start) → let a = c.args in
 permitted c e = let a = c.args in
     subst (λ (x : Cast). permitting (decode a.mem.now).lamps (init_of a.n x) ≡ done (init_of a.n x)) e c.requires.3
 
-pub init_all-requires : goal.init_all-requires
-unfolding decode
-init_all-requires c = (c.requires.0, c.requires.1, c.requires.2, c.requires.4)
-
 pub init_from-requires : goal.init_from-requires
 unfolding decode
 init_from-requires c = let a = c.args in
     let first = c.in-One.first in
     let f = permitted-fits (decode a.mem.now).lamps (init_of a.n (One first)) first (permitted (goal.at.init_from-requires c).Start c.in-One.is) c.requires.1 refl in
     (c.requires.0, c.requires.1, c.requires.2, omega (arith, f, length-lamps_in (count_of a.mem.now) a.mem.now), c.requires.4)
-
-pub returns-in-Everyone : goal.returns-in-Everyone
-unfolding decode
-returns-in-Everyone c = let a = c.args in
-    told-as a.mem.now a.room.now (ap (λ (x : Cast). walked_in a.mem.now (init_of a.n x)) (sym c.in-Everyone.is)) c.init_all.ensures
-
-pub returns-in-One : goal.returns-in-One
-unfolding decode
-returns-in-One c = let a = c.args in
-    told-as a.mem.now a.room.now (ap (λ (x : Cast). walked_in a.mem.now (init_of a.n x)) (sym c.in-One.is)) c.init_from.ensures
 
 pub returns-in-Group : goal.returns-in-Group
 unfolding decode

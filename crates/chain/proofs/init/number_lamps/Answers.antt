@@ -9,12 +9,6 @@ use Rattle.chain.specs.Places.{lamp_at, with_lamp}
 use Rattle.chain.proofs.Sweeps.{Swept, swept_none, swept-more, swept_all}
 use Rattle.chain.proofs.init.number_lamps.Goals as goal
 
-pub loop-i-init : goal.loop-i-init
-loop-i-init c = (swept_none _ _ _, omega arith)
-
-pub overflow_add-a : goal.overflow_add-a
-overflow_add-a c = omega (arith, c.loop-i.invariant.1)
-
 pub loop-i-preserved : goal.loop-i-preserved
 loop-i-preserved c = let l = c.loop-i in
     let t = c.args in (

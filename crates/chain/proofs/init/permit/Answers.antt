@@ -24,11 +24,6 @@ pub returns-then-not-is_init : goal.returns-then-not-is_init
 returns-then-not-is_init c = let a = c.args in
     λ p. permit-plain (decode a.mem.now).lamps a.n p a.cast (sym c.is_init.ensures ∙ c.if-not-is_init.true)
 
-pub permit_from-requires : goal.permit_from-requires
-permit_from-requires c = let a = c.in-One.first in
-    let r : cast_in_range (One a) ≡ true = subst (λ (x : Cast). cast_in_range x ≡ true) c.in-One.is c.requires.1 in
-    (c.requires.0, leb-true a.0 0x3EF (and_right (leb 1 a.0) _ r))
-
 pub returns-in-Everyone : goal.returns-in-Everyone
 returns-in-Everyone c = let a = c.args in
     let xs = (decode a.mem.now).lamps in

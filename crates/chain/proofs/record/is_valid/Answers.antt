@@ -19,9 +19,6 @@ pub returns-then-mem-length : goal.returns-then-mem-length
 returns-then-mem-length c = let k = length-known c.count_of-count.result c.record_len-length.ensures c.if-length-eq0.false in
     sym (chain-room _ (omega (arith, k, c.count_of-count.ensures)))
 
-pub lamps_right-requires : goal.lamps_right-requires
-lamps_right-requires c = omega (arith, length-known c.count_of-count.result c.record_len-length.ensures c.if-length-eq0.false)
-
 pub returns : goal.returns
 returns c = let n = c.count_of-count.ensures in
     let e = c.record_len-length.ensures in
