@@ -30,17 +30,14 @@ pub returns-then-count_of-place : goal.returns-then-count_of-place
 returns-then-count_of-place c = held-refused _ _ (sense-nowhere _ _ _ _ (holds (goal.at.returns-then-count_of-place c).Else-not-is_valid) (omega (arith, c.count_of.ensures, c.if-count_of-place.true)))
 
 pub returns-then-faults-gt7 : goal.returns-then-faults-gt7
-returns-then-faults-gt7 c = held-refused _ _ (sense-range _ _ _ _ (holds (goal.at.returns-then-faults-gt7 c).Else-not-is_valid) (omega (arith, c.count_of.ensures, c.if-count_of-place.false)) c.if-faults-gt7.true)
-
-pub overflow_cast-faults : goal.overflow_cast-faults
-overflow_cast-faults c = omega (arith, c.if-faults-gt7.false)
+returns-then-faults-gt7 c = held-refused _ _ (sense-range _ _ _ _ (holds (goal.at.returns-then-faults-gt7 c).Else-not-is_valid) (omega (arith, c.count_of.ensures, c.if-count_of-place.false)) (omega arith))
 
 pub sense_one-requires : goal.sense_one-requires
 sense_one-requires c = omega (arith, (valid (goal.at.sense_one-requires c).Else-not-is_valid).room, c.count_of.ensures, c.if-count_of-place.false)
 
 pub returns : goal.returns
 returns c = let a = c.args in
-    held-done _ _ (sense-done _ _ _ _ (holds (goal.at.returns c).Else-not-is_valid) (omega (arith, c.count_of.ensures, c.if-count_of-place.false)) c.if-faults-gt7.false)
+    held-done _ _ (sense-done _ _ _ _ (holds (goal.at.returns c).Else-not-is_valid) (omega (arith, c.count_of.ensures, c.if-count_of-place.false)) (omega arith))
     (c.sense_one.ensures
     ∙ hold-set a.mem.now (search rules) (valid (goal.at.returns c).Else-not-is_valid).room a.place.0 _
     (omega (arith, c.count_of.ensures, c.if-count_of-place.false)))

@@ -23,7 +23,7 @@ pub overflow_sub-first : goal.overflow_sub-first
 overflow_sub-first c = omega (arith, (valid (goal.at.overflow_sub-first c).Start).some, c.count_of.ensures)
 
 pub returns-then-first-count_of-gt1007 : goal.returns-then-first-count_of-gt1007
-returns-then-first-count_of-gt1007 c = λ t. permit-past c.args.mem.now (search rules) (valid (goal.at.returns-then-first-count_of-gt1007 c).Start) c.args.first c.count_of.ensures t c.if-first-count_of-gt1007.true
+returns-then-first-count_of-gt1007 c = λ t. permit-past c.args.mem.now (search rules) (valid (goal.at.returns-then-first-count_of-gt1007 c).Start) c.args.first c.count_of.ensures t (omega arith)
 
 pub returns : goal.returns
-returns c = λ t. permit-fits c.args.mem.now (search rules) (valid (goal.at.returns c).Start) c.args.first c.count_of.ensures t c.if-first-count_of-gt1007.false
+returns c = λ t. permit-fits c.args.mem.now (search rules) (valid (goal.at.returns c).Start) c.args.first c.count_of.ensures t (omega arith)
