@@ -1,31 +1,23 @@
 -- `reader::end_capture` meets its contract: memory holds no state, or the end of the reading decides. Assumes nothing.
-use Rattle.std.proofs.Common.{◌≡◌, ℕ, ◌≤◌, Bool, false, not, length, get_or, sym, refl, ap, ◌∙◌, subst, w8, Fits, rules}
+use Rattle.std.proofs.Common.{◌≡◌, ℕ, ◌≤◌, true, false, length, get_or, sym, refl, ap, ◌∙◌, subst, w8, Fits, rules}
 use borrow.Author.Tests.{not-true, not-false}
-use Rattle.telegram.specs.Numbers.{Reason, refused, done, refuse}
+use Rattle.telegram.specs.Numbers.{Reason, refused, done}
 use Rattle.telegram.proofs.Outcomes.{never, refused-one}
 use Rattle.capture.specs.declared.Step.{Step}
 use Rattle.capture.specs.State.{state_of}
 use Rattle.capture.specs.Calls.{Reply, Closed, step_as, closing_as}
 use Rattle.reader.specs.Layout.{state_in}
 use Rattle.reader.specs.Interface.{end_answering, reader_end}
-use Rattle.reader.proofs.States.{state-long}
+use Rattle.reader.proofs.States.{state-long, held-by}
 use Rattle.reader.proofs.Few.{end-few}
 use Rattle.reader.proofs.Holding.{held-sums}
 use Rattle.reader.proofs.Exits.{end_none, end-told, ended}
 use Rattle.reader.proofs.end_capture.Goals as goal
-use Rattle.reader.proofs.end_capture.Goals.{After-end_run-c, After-struct_known-1}
+use Rattle.reader.proofs.end_capture.Goals.{After-end_run-c}
 
 -- what was read out of memory
-held : (c : After-struct_known-1) (v : Bool) → c.read_state-held.result.valid ≡ v
-    → state_in c.args.reader.now ≡ refuse (not v) 11 (done (state_of c.read_state-held.result.reading))
-held c v e =
-    sym c.read_state-held.ensures
-    ∙ ap (λ (x : Bool). refuse (not x) 11 (done (state_of c.read_state-held.result.reading))) e
-
 holds : (c : After-end_run-c) → state_in c.args.reader.now ≡ done (state_of c.read_state-held.result.reading)
-holds c =
-    sym c.read_state-held.ensures
-    ∙ ap (λ (x : Bool). refuse (not x) 11 (done (state_of c.read_state-held.result.reading))) (not-false _ c.if-not-held.false)
+holds c = held-by _ _ true c.read_state-held.ensures (not-false _ c.if-not-held.false)
 
 long : (c : After-end_run-c) → length c.read_state-held.result.reading.bytes ≡ 12
 long c = search rules
@@ -62,7 +54,7 @@ kept c e = (few c (λ z. never (sym z ∙ e)), enough c)
 
 pub returns-then-not-held : goal.returns-then-not-held
 returns-then-not-held c =
-    let p = ended (end_none _ (held (goal.at.returns-then-not-held c).After-struct_known-1 false (not-true _ c.if-not-held.true))) refl refl in
+    let p = ended (end_none _ (held-by _ _ false c.read_state-held.ensures (not-true _ c.if-not-held.true))) refl refl in
     record { value = p.0; reader_after = p.1 }
 
 pub keep_done-requires : goal.keep_done-requires

@@ -1,7 +1,7 @@
 -- `reader::next_carried` meets its contract: memory holds no state, or what the reading answered decides. Assumes nothing.
-use Rattle.std.proofs.Common.{◌≡◌, ℕ, ◌≤◌, Bool, false, cond, not, ltb, List, [], length, get_or, sym, refl, ap, ◌∙◌, subst, arith, w8, Fits, rules, le-ltb}
+use Rattle.std.proofs.Common.{◌≡◌, ℕ, ◌≤◌, true, false, cond, ltb, List, [], length, get_or, sym, refl, ap, ◌∙◌, subst, arith, w8, Fits, rules, le-ltb}
 use borrow.Author.Tests.{not-true, not-false}
-use Rattle.telegram.specs.Numbers.{Reason, refused, done, refuse, fitted, leaves}
+use Rattle.telegram.specs.Numbers.{Reason, refused, done, fitted, leaves}
 use Rattle.telegram.specs.Telegram.{Bytes}
 use Rattle.telegram.specs.declared.Telegram.{Telegram}
 use Rattle.telegram.proofs.Outcomes.{never, refused-one}
@@ -10,24 +10,16 @@ use Rattle.capture.specs.State.{going, standing_of, state_of}
 use Rattle.capture.specs.Calls.{Reply, telegram, more, Given, step_as, next_as}
 use Rattle.reader.specs.Layout.{position_in, state_in, holding}
 use Rattle.reader.specs.Interface.{returned, Called, answering, reader_next}
-use Rattle.reader.proofs.States.{state-long}
+use Rattle.reader.proofs.States.{state-long, held-by}
 use Rattle.reader.proofs.Few.{next-few, next_fits, next-waits}
 use Rattle.reader.proofs.Holding.{held-open, held-sums}
 use Rattle.reader.proofs.Exits.{next-none, next-told, called}
 use Rattle.reader.proofs.next_carried.Goals as goal
-use Rattle.reader.proofs.next_carried.Goals.{After-next_at-n, After-struct_known-1}
+use Rattle.reader.proofs.next_carried.Goals.{After-next_at-n}
 
 -- what was read out of memory
-held : (c : After-struct_known-1) (v : Bool) → c.read_likely_open-held.result.valid ≡ v
-    → state_in c.args.reader.now ≡ refuse (not v) 11 (done (state_of c.read_likely_open-held.result.reading))
-held c v e =
-    sym c.read_likely_open-held.ensures
-    ∙ ap (λ (x : Bool). refuse (not x) 11 (done (state_of c.read_likely_open-held.result.reading))) e
-
 holds : (c : After-next_at-n) → state_in c.args.reader.now ≡ done (state_of c.read_likely_open-held.result.reading)
-holds c =
-    sym c.read_likely_open-held.ensures
-    ∙ ap (λ (x : Bool). refuse (not x) 11 (done (state_of c.read_likely_open-held.result.reading))) (not-false _ c.if-not-held.false)
+holds c = held-by _ _ true c.read_likely_open-held.ensures (not-false _ c.if-not-held.false)
 
 long : (c : After-next_at-n) → length c.read_likely_open-held.result.reading.bytes ≡ 12
 long c = search rules
@@ -118,7 +110,7 @@ silent c k m i e q b d =
 pub returns-then-not-held : goal.returns-then-not-held
 returns-then-not-held c =
     let a = c.args in
-    let e = held (goal.at.returns-then-not-held c).After-struct_known-1 false (not-true _ c.if-not-held.true) in
+    let e = held-by _ _ false c.read_likely_open-held.ensures (not-true _ c.if-not-held.true) in
     let p = called (next-none _ a.chunk.now a.at.now (length a.out.now) e) a.out.now refl refl refl refl in
     record { value = p.0; reader_after = p.1.0; at_after = p.1.1.0; out_after = p.1.1.1 }
 

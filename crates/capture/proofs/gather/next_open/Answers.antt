@@ -1,5 +1,5 @@
 -- `capture::gather::next_open` meets its contract: no byte is left in the chunk, or twelve decide. Assumes nothing.
-use Rattle.std.proofs.Common.{◌≡◌, ℕ, ◌≤◌, List, length, sym, ap, ◌∙◌, arith, drop_of_length-le, rules}
+use Rattle.std.proofs.Common.{◌≡◌, ℕ, ◌≤◌, List, length, sym, ap, ◌∙◌, drop_of_length-le, rules}
 use Rattle.capture.specs.State.{going, state_of}
 use Rattle.capture.specs.Calls.{next_by}
 use Rattle.capture.proofs.Feeding.{next-none}
@@ -14,9 +14,3 @@ returns-then-chunk-at c = let h : length c.args.chunk.now ≤ c.args.at = c.if-c
     let s = state_of c.args.carried in
     c.bare.ensures ∙ next-none s c.args.at (long (goal.at.returns-then-chunk-at c).Start) c.requires.0 c.requires.1
     ∙ ap (λ (l : List ℕ). next_by going l s c.args.at) (sym (drop_of_length-le _ h))
-
-pub next_across-requires : goal.next_across-requires
-next_across-requires c = (c.requires.0, c.requires.1, omega arith)
-
-pub returns : goal.returns
-returns c = c.next_across.ensures

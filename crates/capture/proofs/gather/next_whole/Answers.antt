@@ -4,7 +4,6 @@ use Rattle.std.proofs.Common.{◌≡◌, ℕ, ◌+◌, ◌-◌, List, length, sy
 use Rattle.telegram.specs.Numbers.{Outcome, done}
 use Rattle.telegram.specs.Telegram.{read_as, reading}
 use Rattle.telegram.specs.declared.Telegram.{Telegram}
-use Rattle.telegram.proofs.Reading.{refusal_is}
 use Rattle.capture.specs.State.{State, state_of}
 use Rattle.capture.specs.Calls.{telegram, Given, next_judged}
 use Rattle.capture.proofs.Padding.{padded-over}
@@ -12,13 +11,6 @@ use Rattle.capture.proofs.gather.next_whole.Goals as goal
 
 abbrev answer : Telegram → List ℕ → ℕ → State → Given
 answer t b at s = record { answer = done (telegram t); bytes = b; at = at; state = s }
-
--- what is refused: the reader's refusal, passed on whole
-pub returns-in_default : goal.returns-in_default
-returns-in_default c = let a = c.args in
-    c.stop.ensures
-    ∙ sym (ap (λ (o : Outcome Telegram). next_judged o a.s.now (length a.s.now) (state_of a.carried) a.at)
-    (refusal_is a.s.now _ c.read_telegram-r.ensures c.in_default.is c.refusal_of.ensures))
 
 -- what is given: the telegram with zeros behind it, and the reading behind the telegram
 pub returns : goal.returns

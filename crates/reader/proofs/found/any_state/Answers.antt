@@ -3,27 +3,26 @@ use Rattle.std.proofs.Common.{◌≡◌, ℕ, Bool, true, false, not, List, sym,
 use borrow.Author.Tests.{not-true, not-false}
 use Rattle.telegram.specs.Numbers.{Outcome, done, refuse}
 use Rattle.capture.specs.State.{Standing, standing_of, State}
-use Rattle.reader.specs.Layout.{stands_in}
+use Rattle.reader.specs.Layout.{begun_as}
+use Rattle.reader.specs.declared.found.Begun.{Begun}
 use Rattle.reader.proofs.States.{state-by}
 use Rattle.reader.proofs.found.any_state.Goals as goal
-use Rattle.reader.proofs.found.any_state.Goals.{After-struct_known-1}
 
 abbrev told : Bool → Standing → Outcome Standing
 told v k = refuse (not v) 11 (done k)
 
 -- what the bytes say of it
-said : (c : After-struct_known-1) (v : Bool) → c.standing_in-b.result.valid ≡ v
-    → let mem = c.args.mem.now in
-    told v (standing_of c.standing_in-b.result.phase) ≡ stands_in mem
-said c v e = sym (ap (λ (x : Bool). told x (standing_of c.standing_in-b.result.phase)) e) ∙ c.standing_in-b.ensures
+said : (b : Begun) (v : Bool) {o : Outcome Standing} → begun_as b ≡ o → b.valid ≡ v → told v (standing_of b.phase) ≡ o
+said b v e q = sym (ap (λ (x : Bool). told x (standing_of b.phase)) q) ∙ e
 
 abbrev state : Standing → ℕ → ℕ → List ℕ → State
 state k n p b = record { standing = k; count = n; position = p; bytes = b }
 
 pub returns-then-not-b : goal.returns-then-not-b
-returns-then-not-b c = c.no_state.ensures ∙ state-by _ (omega arith) _ (said (goal.at.returns-then-not-b c).After-struct_known-1 false (not-true _ c.if-not-b.true))
+returns-then-not-b c = c.no_state.ensures ∙ state-by _ (omega arith) _ (said _ false c.standing_in-b.ensures (not-true _ c.if-not-b.true))
 
 pub returns : goal.returns
-returns c = let k = standing_of c.standing_in-b.result.phase in
+returns c =
+    let k = standing_of c.standing_in-b.result.phase in
     (λ i. done (state k (c.count_in.ensures i) (c.position_in.ensures i) (c.carried_in.ensures i)))
-    ∙ state-by _ (omega arith) _ (said (goal.at.returns c).After-struct_known-1 true (not-false _ c.if-not-b.false))
+    ∙ state-by _ (omega arith) _ (said _ true c.standing_in-b.ensures (not-false _ c.if-not-b.false))
