@@ -6,7 +6,6 @@ use Rattle.telegram.specs.Numbers.{done}
 use Rattle.chain.specs.Record.{chain_in, decode}
 use Rattle.chain.proofs.Exits.{chain-yes, chain-no}
 use Rattle.chain.proofs.Delivering.{deliver-room, deliver-invalid, deliver-walks, left_as}
-use borrow.Author.Rules.{rules}
 use Rattle.chain.proofs.deliver.Goals as goal
 use Rattle.chain.proofs.deliver.Goals.{Else-not-is_valid}
 

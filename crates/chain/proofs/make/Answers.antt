@@ -6,10 +6,9 @@ use native.Mathlib.Omega.{arith}
 use mathlib.Core.List.{List}
 use Rattle.rules.specs.declared.Lamp.{Lamp}
 use Rattle.chain.specs.Places.{sweep}
-use Rattle.chain.proofs.Validity.{count-wrong, count-known, length-known, count_most}
+use Rattle.chain.proofs.Validity.{count-wrong, count-known, length-known}
 use Rattle.chain.proofs.Records.{hold-fresh}
 use Rattle.chain.proofs.Exits.{held-refused, held-done, made-count, made-room, made-done}
-use borrow.Author.Rules.{rules}
 use Rattle.chain.proofs.make.Goals as goal
 
 pub returns-then-length-eq0 : goal.returns-then-length-eq0

@@ -6,7 +6,6 @@ use Rattle.telegram.specs.Numbers.{done}
 use Rattle.chain.specs.Record.{chain_in, decode}
 use Rattle.chain.proofs.Validity.{Valid, chain-in}
 use Rattle.chain.proofs.Exits.{chain-yes, chain-no, read-invalid, read-nowhere, read_done}
-use borrow.Author.Rules.{rules}
 use Rattle.chain.proofs.read_lamp.Goals as goal
 use Rattle.chain.proofs.read_lamp.Goals.{Else-not-is_valid}
 

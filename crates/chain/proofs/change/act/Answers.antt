@@ -1,7 +1,6 @@
 -- `chain::change::act` meets its contract.
 -- Assumes nothing.
 use mathlib.Core.Path.{◌∙◌, ap, sym}
-use native.Mathlib.Omega.{arith}
 use Rattle.rules.specs.declared.Lamp.{Lamp}
 use Rattle.rules.specs.Lamp.{obeys, changed, acted}
 use Rattle.chain.specs.Places.{with_lamp}

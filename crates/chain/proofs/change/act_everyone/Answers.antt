@@ -1,16 +1,14 @@
 -- `chain::change::act_everyone` meets its contract: in an arm of one number the table of changes computes at it.
 -- Assumes nothing.
-use mathlib.Core.Path.{◌≡◌, ◌∙◌, refl, ap, sym}
+use mathlib.Core.Path.{◌≡◌, ◌∙◌, ap, sym}
 use mathlib.Core.List.{List}
 use Prim.Native.Nat.{ℕ}
-use lib.ListN.{length}
-use Rattle.table.specs.Table.{acknowledged, plain_number, size_right}
+use Rattle.table.specs.Table.{acknowledged, plain_number}
 use Rattle.rules.specs.declared.Defaults.{Defaults}
 use Rattle.rules.specs.declared.Lamp.{Lamp}
 use Rattle.rules.specs.Lamp.{changed_plain, acted}
 use Rattle.chain.specs.Places.{sweep}
 use Rattle.chain.specs.Helpers.{command_in}
-use borrow.Author.Rules.{rules}
 use Rattle.chain.proofs.change.act_everyone.Goals as goal
 
 -- a sweep for a number, at the key that it is

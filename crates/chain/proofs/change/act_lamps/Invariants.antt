@@ -1,12 +1,10 @@
 -- `chain::change::act_lamps` meets its contract.
 -- Assumes nothing.
 use Prim.Native.Nat.{ℕ, ◌-◌}
-use native.Mathlib.Omega.{arith}
-use mathlib.Core.Path.{◌≡◌}
 use Rattle.rules.specs.declared.Lamp.{Lamp}
 use Rattle.chain.specs.Places.{acted_in}
 use Rattle.chain.specs.Helpers.{command_in}
-use Rattle.chain.proofs.Sweeps.{Swept, swept_none, swept-more, swept_all}
+use Rattle.chain.proofs.Sweeps.{Swept}
 use Rattle.chain.proofs.change.act_lamps.Given as goal
 
 abbrev pub invariant-loop-i : goal.invariant-loop-i

@@ -1,11 +1,10 @@
 -- `chain::change::act_reached` meets its contract.
 -- Assumes nothing.
 use mathlib.Core.Path.{◌∙◌, ap, sym}
-use native.Mathlib.Omega.{arith}
 use Rattle.rules.specs.Lamp.{acted}
 use Rattle.chain.specs.Places.{with_lamp, reached}
 use Rattle.chain.specs.Helpers.{command_in}
-use Rattle.chain.proofs.Slots.{with-self, picked, passed-by}
+use Rattle.chain.proofs.Slots.{with-self, passed-by}
 use borrow.Author.Rules.{rules}
 use Rattle.chain.proofs.change.act_reached.Goals as goal
 

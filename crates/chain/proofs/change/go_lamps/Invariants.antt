@@ -1,11 +1,9 @@
 -- `chain::change::go_lamps` meets its contract.
 -- Assumes nothing.
 use Prim.Native.Nat.{ℕ, ◌-◌}
-use native.Mathlib.Omega.{arith}
-use mathlib.Core.Path.{◌≡◌}
 use Rattle.rules.specs.declared.Lamp.{Lamp}
 use Rattle.chain.specs.Places.{gone}
-use Rattle.chain.proofs.Sweeps.{Swept, swept_none, swept-more, swept_all}
+use Rattle.chain.proofs.Sweeps.{Swept}
 use Rattle.chain.proofs.change.go_lamps.Given as goal
 
 abbrev pub invariant-loop-i : goal.invariant-loop-i

@@ -3,8 +3,7 @@
 use mathlib.Core.Path.{◌∙◌, sym, ap}
 use lib.Seq.{length-take-le}
 use Rattle.telegram.specs.Telegram.{listed}
-use Rattle.chain.proofs.Exits.{answer-none, answer-built}
-use borrow.Author.Rules.{rules}
+use Rattle.chain.proofs.Exits.{answer-built}
 use Rattle.chain.proofs.delivery.answer.Goals as goal
 
 pub returns : goal.returns

@@ -17,7 +17,6 @@ use Rattle.command.proofs.Naming.{headed-size, headed-message, dissect-refused, 
 use Rattle.chain.specs.Helpers.{refused_in, responded_in, sent_in}
 use Rattle.chain.proofs.Responding.{told-as}
 use Rattle.chain.proofs.Delivering.{delivered-as, refused-told, accepted-cast, accepted-number}
-use borrow.Author.Rules.{rules}
 use Rattle.chain.proofs.delivery.deliver_valid.Goals as goal
 use Rattle.chain.proofs.delivery.deliver_valid.Goals.{After-refusal_of, In-Refused, In-To}
 

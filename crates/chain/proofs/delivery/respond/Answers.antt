@@ -1,7 +1,6 @@
 -- `chain::delivery::respond` meets its contract: what is permitted is sent, the rest refused.
 -- Assumes nothing.
 use mathlib.Core.Path.{◌≡◌, ◌∙◌, ap, sym}
-use native.Mathlib.Omega.{arith}
 use Rattle.rules.specs.Chain.{permitting}
 use Rattle.chain.specs.declared.Permit.{Permit}
 use Rattle.chain.specs.Record.{decode}

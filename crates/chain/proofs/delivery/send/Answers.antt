@@ -1,22 +1,14 @@
 -- `chain::delivery::send` meets its contract: an init by its number and cast, else by the cast.
 -- Assumes nothing.
-use mathlib.Core.Path.{◌≡◌, ◌∙◌, ap, refl, sym, subst}
+use mathlib.Core.Path.{◌≡◌, ◌∙◌, ap, sym}
 use mathlib.Core.Bool.{true}
-use Prim.Native.Nat.{◌≤◌}
-use native.Mathlib.Omega.{arith}
-use lib.Dec.{leb}
-use borrow.Author.Tests.{leb-true, lt-ltb}
 use Rattle.table.specs.declared.Cast.{Cast}
-use Rattle.table.specs.declared.Cast.TheVariants.{One, Group}
-use Rattle.table.specs.Casts.{cast_in_range}
-use Rattle.table.proofs.Both.{and_right}
 use Rattle.rules.specs.Chain.{is_init}
 use Rattle.chain.specs.declared.Reach.TheVariants.{Everyone as All, Members}
 use Rattle.chain.specs.Record.{decode}
 use Rattle.chain.specs.Helpers.{walked_in, reached_in, command_in, sent_in}
 use Rattle.chain.proofs.Responding.{told-as, reached-done}
 use Rattle.chain.proofs.Inits.{walked-plain, walked-init, permit-alike}
-use borrow.Author.Rules.{rules}
 use Rattle.chain.proofs.delivery.send.Goals as goal
 use Rattle.chain.proofs.delivery.send.Goals.{Else-is_init, Then-is_init}
 

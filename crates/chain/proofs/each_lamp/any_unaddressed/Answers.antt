@@ -1,11 +1,10 @@
 -- `chain::each_lamp::any_unaddressed` meets its contract.
 -- Assumes nothing.
 use mathlib.Core.Path.{◌≡◌, ◌∙◌, ap, sym}
-use Prim.Native.Nat.{ℕ, ◌≤◌, ◌-◌}
+use Prim.Native.Nat.{ℕ}
 use native.Mathlib.Omega.{arith}
 use mathlib.Core.Bool.{◌||◌}
 use Rattle.rules.specs.Chain.{any_unaddressed}
-use Rattle.chain.specs.Record.{lamps_in}
 use Rattle.chain.proofs.Places.{rest, rest_all, unaddressed-step, unaddressed-none}
 use borrow.Author.Rules.{rules}
 use Rattle.chain.proofs.each_lamp.any_unaddressed.Goals as goal

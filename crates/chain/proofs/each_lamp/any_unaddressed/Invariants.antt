@@ -1,13 +1,11 @@
 -- `chain::each_lamp::any_unaddressed` meets its contract.
 -- Assumes nothing.
-use mathlib.Core.Path.{◌≡◌, ◌∙◌, ap, sym}
-use Prim.Native.Nat.{ℕ, ◌≤◌, ◌-◌}
-use native.Mathlib.Omega.{arith}
+use mathlib.Core.Path.{◌≡◌}
+use Prim.Native.Nat.{◌≤◌, ◌-◌}
 use mathlib.Core.Bool.{◌||◌}
 use Rattle.rules.specs.Chain.{any_unaddressed}
 use Rattle.chain.specs.Record.{lamps_in}
-use Rattle.chain.proofs.Places.{rest, rest_all, unaddressed-step, unaddressed-none}
-use borrow.Author.Rules.{rules}
+use Rattle.chain.proofs.Places.{rest}
 use Rattle.chain.proofs.each_lamp.any_unaddressed.Given as goal
 
 abbrev pub invariant-loop-i : goal.invariant-loop-i

@@ -1,12 +1,10 @@
 -- `chain::each_lamp::find` meets its contract.
 -- Assumes nothing.
 use mathlib.Core.Path.{◌≡◌, ◌∙◌, ap, sym}
-use Prim.Native.Nat.{◌≤◌, ◌-◌}
 use native.Mathlib.Omega.{arith}
 use borrow.Author.Tests.{eqb-true, eqb-false}
-use Rattle.chain.specs.Record.{lamps_in}
 use Rattle.chain.specs.Places.{place_from}
-use Rattle.chain.proofs.Places.{rest, rest_all, place_here, place-next, place_none}
+use Rattle.chain.proofs.Places.{rest_all, place_here, place-next, place_none}
 use borrow.Author.Rules.{rules}
 use Rattle.chain.proofs.each_lamp.find.Goals as goal
 

@@ -1,12 +1,8 @@
 -- `chain::each_lamp::mark_lamps` meets its contract.
 -- Assumes nothing.
-use Prim.Native.Nat.{ℕ, ◌-◌}
 use native.Mathlib.Omega.{arith}
 use mathlib.Core.Path.{◌≡◌}
-use Rattle.rules.specs.declared.Lamp.{Lamp}
-use mathlib.Core.Bool.{cond}
-use Rattle.rules.specs.Lamp.{with_ce}
-use Rattle.chain.proofs.Sweeps.{Swept, swept_none, swept-more, swept_all}
+use Rattle.chain.proofs.Sweeps.{swept-more, swept_all}
 use Rattle.chain.proofs.each_lamp.mark_lamps.Goals as goal
 
 pub loop-i-preserved : goal.loop-i-preserved

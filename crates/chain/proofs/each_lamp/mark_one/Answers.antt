@@ -2,10 +2,7 @@
 -- Assumes nothing.
 use mathlib.Core.Path.{◌∙◌, ap, sym}
 use mathlib.Core.Bool.{Bool, cond}
-use native.Mathlib.Omega.{arith}
-use Rattle.rules.specs.declared.Flags.{Flags}
-use Rattle.rules.specs.declared.Lamp.{Lamp}
-use Rattle.rules.specs.Lamp.{with_flags, with_ce}
+use Rattle.rules.specs.Lamp.{with_ce}
 use Rattle.chain.specs.Places.{lamp_at, with_lamp}
 use Rattle.chain.proofs.Slots.{with-self}
 use borrow.Author.Rules.{rules}

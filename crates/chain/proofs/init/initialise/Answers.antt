@@ -1,6 +1,6 @@
 -- `chain::init::initialise` meets its contract: by the cast.
 -- Assumes nothing.
-use mathlib.Core.Path.{◌≡◌, refl, ap, sym, subst}
+use mathlib.Core.Path.{◌≡◌, refl, subst}
 use native.Mathlib.Omega.{arith}
 use Rattle.telegram.specs.Numbers.{done}
 use Rattle.table.specs.declared.Cast.{Cast}
@@ -8,11 +8,9 @@ use Rattle.table.specs.declared.Cast.TheVariants.{One}
 use Rattle.rules.specs.Chain.{permitting}
 use Rattle.rules.proofs.Deliveries.{permitted-fits}
 use Rattle.chain.specs.Record.{decode, count_of}
-use Rattle.chain.specs.Helpers.{walked_in, init_of}
+use Rattle.chain.specs.Helpers.{init_of}
 use Rattle.chain.proofs.Places.{length-lamps_in}
-use Rattle.chain.proofs.Responding.{told-as}
 use Rattle.chain.proofs.Inits.{permit-group}
-use borrow.Author.Rules.{rules}
 use Rattle.chain.proofs.init.initialise.Goals as goal
 use Rattle.chain.proofs.init.initialise.Goals.{Start}
 

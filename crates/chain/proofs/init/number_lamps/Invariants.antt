@@ -1,12 +1,10 @@
 -- `chain::init::number_lamps` meets its contract: at place i the address is the first one + i.
 -- Assumes nothing.
 use Prim.Native.Nat.{ℕ, ◌+◌, ◌-◌}
-use native.Mathlib.Omega.{arith}
-use mathlib.Core.Path.{◌≡◌, ◌∙◌, ap}
+use mathlib.Core.Path.{◌≡◌}
 use Rattle.rules.specs.declared.Lamp.{Lamp}
 use Rattle.rules.specs.Lamp.{numbered_as}
-use Rattle.chain.specs.Places.{lamp_at, with_lamp}
-use Rattle.chain.proofs.Sweeps.{Swept, swept_none, swept-more, swept_all}
+use Rattle.chain.proofs.Sweeps.{Swept}
 use Rattle.chain.proofs.init.number_lamps.Given as goal
 
 abbrev pub invariant-loop-i : goal.invariant-loop-i

@@ -1,18 +1,11 @@
 -- `chain::init::permit` meets its contract: an init by its cast.
 -- Assumes nothing.
-use mathlib.Core.Path.{◌≡◌, ◌∙◌, ap, sym, subst}
+use mathlib.Core.Path.{◌≡◌, ◌∙◌, ap, sym}
 use mathlib.Core.Bool.{true}
-use lib.Dec.{leb}
-use borrow.Author.Tests.{leb-true}
-use Rattle.table.specs.declared.Cast.{Cast}
-use Rattle.table.specs.declared.Cast.TheVariants.{One}
-use Rattle.table.specs.Casts.{cast_in_range}
-use Rattle.table.proofs.Both.{and_right}
 use Rattle.rules.specs.Chain.{is_init, permitting_init}
 use Rattle.chain.specs.Record.{decode}
 use Rattle.chain.specs.Helpers.{sent_in}
 use Rattle.chain.proofs.Inits.{permit-plain, permit-init}
-use borrow.Author.Rules.{rules}
 use Rattle.chain.proofs.init.permit.Goals as goal
 use Rattle.chain.proofs.init.permit.Goals.{Else-not-is_init}
 

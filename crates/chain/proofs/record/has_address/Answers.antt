@@ -4,7 +4,6 @@ use mathlib.Core.Path.{◌∙◌, ap}
 use lib.Dec.{eqb}
 use Rattle.rules.specs.declared.Lamp.{Lamp}
 use Rattle.chain.proofs.Slots.{slot-at}
-use borrow.Author.Rules.{rules}
 use Rattle.chain.proofs.record.has_address.Goals as goal
 
 pub returns : goal.returns

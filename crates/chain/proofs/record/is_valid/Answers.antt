@@ -6,7 +6,6 @@ use native.Mathlib.Omega.{arith}
 use Rattle.rules.specs.Chain.{count_right, lamps_right}
 use Rattle.chain.specs.Record.{lamps_in}
 use Rattle.chain.proofs.Validity.{chain-short, chain-count, chain-room, chain-tested, count-wrong, count-known, length-known}
-use borrow.Author.Rules.{rules}
 use Rattle.chain.proofs.record.is_valid.Goals as goal
 
 pub returns-then-mem-lt-HEADER : goal.returns-then-mem-lt-HEADER

@@ -3,7 +3,6 @@
 use mathlib.Core.Path.{◌∙◌, ap}
 use Rattle.rules.specs.Chain.{lamp_right}
 use Rattle.chain.proofs.Slots.{slot-at}
-use borrow.Author.Rules.{rules}
 use Rattle.chain.proofs.record.lamp_right.Goals as goal
 
 pub returns : goal.returns

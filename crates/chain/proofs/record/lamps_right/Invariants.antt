@@ -1,13 +1,11 @@
 -- `chain::record::lamps_right` meets its contract.
 -- Assumes nothing.
-use mathlib.Core.Path.{◌≡◌, ◌∙◌, ap, sym}
-use Prim.Native.Nat.{ℕ, ◌≤◌, ◌-◌}
-use native.Mathlib.Omega.{arith}
+use mathlib.Core.Path.{◌≡◌}
+use Prim.Native.Nat.{◌≤◌, ◌-◌}
 use mathlib.Core.Bool.{◌&&◌}
 use Rattle.rules.specs.Chain.{lamps_right}
 use Rattle.chain.specs.Record.{lamps_in}
-use Rattle.chain.proofs.Places.{rest, rest_all, right-step, right-none}
-use borrow.Author.Rules.{rules}
+use Rattle.chain.proofs.Places.{rest}
 use Rattle.chain.proofs.record.lamps_right.Given as goal
 
 abbrev pub invariant-loop-i : goal.invariant-loop-i

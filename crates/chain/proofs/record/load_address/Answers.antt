@@ -3,7 +3,6 @@
 use mathlib.Core.Path.{◌∙◌, ap}
 use Rattle.rules.specs.declared.Lamp.{Lamp}
 use Rattle.chain.proofs.Slots.{slot-at}
-use borrow.Author.Rules.{rules}
 use Rattle.chain.proofs.record.load_address.Goals as goal
 
 pub returns : goal.returns

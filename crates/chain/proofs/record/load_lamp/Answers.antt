@@ -2,7 +2,6 @@
 -- Assumes nothing.
 use mathlib.Core.Path.{◌∙◌}
 use Rattle.chain.proofs.Slots.{slot-at}
-use borrow.Author.Rules.{rules}
 use Rattle.chain.proofs.record.load_lamp.Goals as goal
 
 pub returns : goal.returns

@@ -4,7 +4,6 @@ use mathlib.Core.Path.{◌∙◌, ap}
 use Prim.Native.Nat.{ℕ}
 use Rattle.telegram.proofs.Front.{overwritten}
 use Rattle.chain.proofs.Slots.{put-lamp}
-use borrow.Author.Rules.{rules}
 use Rattle.chain.proofs.record.store_lamp.Goals as goal
 
 pub returns : goal.returns
