@@ -5,13 +5,11 @@ use mathlib.Core.List.{List, [], ◌∷◌, ◌++◌}
 use Prim.Native.Nat.{ℕ, ◌+◌, ◌-◌, ◌/◌, ◌%◌, ◌≤◌, ◌<◌}
 use native.Mathlib.Omega.{arith}
 use native.Mathlib.Nat.{add-sub_cancel_left}
-use lib.ListN.{length, take, drop, length-append, length-drop}
-use lib.Seq.{take-length, length-take-le}
-use borrow.Rule.Slice.PartMut.{put_mid}
-use Rattle.telegram.specs.Numbers.{Outcome, refused_for, done, front, counted, built_as}
+use lib.ListN.{length, take, drop}
+use lib.Seq.{length-take-le}
+use Rattle.telegram.specs.Numbers.{Outcome, refused_for, done, counted, built_as}
 use Rattle.telegram.specs.Telegram.{building}
 use Rattle.telegram.specs.declared.Built.{Built}
-use Rattle.telegram.proofs.Front.{overwritten, front-over, put-over}
 use Rattle.telegram.proofs.Building.{listed_le, telegram-length, built}
 use Rattle.telegram.proofs.Outcomes.{never, done-one}
 use Rattle.telegram.specs.declared.Telegram.{Telegram}

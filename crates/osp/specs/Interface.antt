@@ -1,6 +1,6 @@
 -- The C interface over numbers and byte slices: what each function returns and what it leaves in the lent room.
 -- Assumes nothing.
-use Rattle.std.specs.Prelude.{ℕ, ◌*◌, ◌/◌, ◌%◌, false, cond, not, ◌&&◌, List, [], ◌∷◌, ◌++◌, eqb, leb, ltb, length}
+use Rattle.std.specs.Prelude.{ℕ, ◌/◌, ◌%◌, false, cond, not, ◌&&◌, List, [], ◌∷◌, ◌++◌, eqb, leb, ltb, length}
 use Rattle.telegram.specs.Numbers.{Outcome, refused, done, refuse, after, fitted}
 use Rattle.telegram.specs.Telegram.{reading, payload_in}
 use Rattle.telegram.specs.declared.Telegram.{Telegram}

@@ -6,7 +6,6 @@ use lib.ListN.{length}
 use Rattle.chain.specs.Memory.{delivered}
 use Rattle.osp.proofs.ChainCalls.{counted-short}
 use Rattle.chain.proofs.Lengths.{short-delivered}
-use borrow.Author.Rules.{rules}
 use Rattle.osp.proofs.chains.osp_deliver.Goals as goal
 
 pub delivered_returned-requires : goal.delivered_returned-requires

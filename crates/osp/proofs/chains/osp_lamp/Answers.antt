@@ -5,7 +5,6 @@ use Rattle.telegram.proofs.Outcomes.{after-done, after-refused, told_same, told-
 use Rattle.chain.specs.Memory.{lamp_read_as}
 use Rattle.reader.specs.Interface.{returned}
 use Rattle.osp.specs.Interface.{osp_lamp}
-use borrow.Author.Rules.{rules}
 use Rattle.osp.proofs.chains.osp_lamp.Goals as goal
 
 pub returns-in-Read : goal.returns-in-Read

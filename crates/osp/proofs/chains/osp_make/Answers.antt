@@ -5,7 +5,6 @@ use Rattle.reader.specs.Interface.{packed}
 use Rattle.osp.specs.Interface.{defaults_from}
 use Rattle.chain.specs.Memory.{made}
 use Rattle.osp.proofs.ChainCalls.{silent-short}
-use borrow.Author.Rules.{rules}
 use Rattle.osp.proofs.chains.osp_make.Goals as goal
 
 pub delivered_returned-requires : goal.delivered_returned-requires

@@ -4,7 +4,6 @@ use mathlib.Core.Path.{◌∙◌, ap}
 use Rattle.reader.specs.Interface.{packed}
 use Rattle.chain.specs.Memory.{sensed_in}
 use Rattle.osp.proofs.ChainCalls.{silent-short}
-use borrow.Author.Rules.{rules}
 use Rattle.osp.proofs.chains.osp_sense.Goals as goal
 
 pub delivered_returned-requires : goal.delivered_returned-requires

@@ -3,7 +3,6 @@
 use mathlib.Core.Path.{ap}
 use Prim.Native.Nat.{◌<◌}
 use native.Mathlib.Omega.{arith}
-use borrow.Author.Rules.{rules}
 use Rattle.telegram.specs.Numbers.{built_as}
 use Rattle.osp.proofs.returned.built_returned.Goals as goal
 use Rattle.osp.proofs.returned.built_returned.Goals.{In-Done}

@@ -4,7 +4,6 @@ use mathlib.Core.Path.{ap}
 use Prim.Native.Nat.{◌<◌}
 use native.Mathlib.Omega.{arith}
 use Rattle.chain.specs.Memory.{delivered_as}
-use borrow.Author.Rules.{rules}
 use Rattle.osp.proofs.returned.delivered_returned.Goals as goal
 use Rattle.osp.proofs.returned.delivered_returned.Goals.{In-Done}
 

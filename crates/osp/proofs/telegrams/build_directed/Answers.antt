@@ -1,7 +1,6 @@
 -- `osp::telegrams::build_directed` meets its contract.
 -- Assumes nothing.
 use mathlib.Core.Path.{◌∙◌, refl, sym, ap}
-use borrow.Author.Rules.{rules}
 use lib.ListN.{length}
 use Rattle.telegram.proofs.Outcomes.{after-refused, after-done, told-refused, told_same}
 use Rattle.reader.specs.Interface.{packed, returned}

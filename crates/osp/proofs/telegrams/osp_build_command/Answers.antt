@@ -2,7 +2,6 @@
 -- Assumes nothing.
 use mathlib.Core.Path.{◌∙◌, refl, sym, ap}
 use native.Mathlib.Omega.{arith}
-use borrow.Author.Rules.{rules}
 use Rattle.telegram.proofs.Outcomes.{after-refused, after-done, told-refused, told_same}
 use Rattle.command.specs.Commands.{composed_as}
 use Rattle.table.proofs.Table.{row-high}

@@ -1,7 +1,6 @@
 -- `osp::telegrams::osp_dissect_answer` meets its contract.
 -- Assumes nothing.
 use mathlib.Core.Path.{◌∙◌, sym, ap}
-use borrow.Author.Rules.{rules}
 use Rattle.telegram.proofs.Outcomes.{after-refused, after-done, told-refused, told_same}
 use Rattle.answer.specs.Answers.{reply_as}
 use Rattle.reader.specs.Interface.{returned}
