@@ -1,10 +1,11 @@
 // osp dump: a raw capture, listed telegram by telegram as it arrives, in constant memory. docs/TOOL.md has the forms.
 #![tactic(auto)]
 
+mod run;
 mod walk;
 
+use run::{Manner, Run, Stop};
 use std::rt::Files;
-use walk::{Manner, Run, Stop};
 
 // Appends the last line of a capture that ended, or that was refused.
 fn put_end(out: &mut [u8], manner: Manner, run: Run, refusal: u32) -> usize {

@@ -2,19 +2,17 @@
 // table, as JSON or as a picture. docs/TOOL.md has the forms.
 #![tactic(auto)]
 
-use chain::{Delivered, LampRead};
+mod fresh;
+
+use chain::LampRead;
+use fresh::{chain_memory, make};
 use lamps::Look;
 use lines::Style;
 use options::Options;
 use raw::Played;
-use rules::{Defaults, Place, Thresholds};
+use rules::Place;
 use script::{Run, Stop};
 use std::rt::Files;
-
-// The memory of a chain: enough for the largest.
-fn chain_memory() -> [u8; 16384] {
-    [0; 16384]
-}
 
 // A run of a script, or one that never began.
 fn played(run: Run) -> Played {
@@ -60,26 +58,6 @@ fn is_ended(run: Run) -> bool {
     match stop {
         Stop::Ended => true,
         _ => false,
-    }
-}
-
-fn defaults_of(o: Options) -> Defaults {
-    Defaults {
-        setup: o.setup,
-        thresholds: Thresholds {
-            cycle: o.cycle,
-            low: o.low,
-            high: o.high,
-        },
-    }
-}
-
-// Makes the chain. Answers its refusal, 0 for none.
-fn make(mem: &mut [u8], o: Options) -> u32 {
-    let made = chain::make(mem, o.lamps as usize, defaults_of(o));
-    match made {
-        Delivered::Done(_) => 0,
-        Delivered::Refused(e) => telegram::refusal_value(e),
     }
 }
 
