@@ -3,7 +3,7 @@
 
 usage: tools/spell_names.py [--list] [FOLDER]
 
-Run once, right after /opt/rattle/port/port.py, at the top of a checkout (or with FOLDER). A name part such as `checksumOf` in a .antt file, or
+Run once, right after the kit's port.py, at the top of a checkout (or with FOLDER). A name part such as `checksumOf` in a .antt file, or
 in a .rt file, becomes `checksum_of`; parts that begin with a capital (types, facts, variants) stay, and so do strings. The edits of must-fail/ and
 mutants/ and the pages of docs/ follow for the names that the .antt files have. --list prints the names and those that fall together.
 """
