@@ -7,7 +7,7 @@ use mathlib.Core.List.{List}
 use Prim.Native.Nat.{ℕ}
 use lib.Dec.{eqb}
 use borrow.Author.Tests.{eq-eqb, ne_eqb, eqb-true, not-false}
-use Rattle.telegram.specs.Numbers.{Reason, refused_for, refused, done}
+use Rattle.telegram.specs.Numbers.{Reason, refused_for, done}
 use Rattle.telegram.specs.Telegram.{reading, payload_in}
 use Rattle.telegram.specs.declared.Telegram.{Telegram}
 use Rattle.telegram.proofs.Outcomes.{done-one, passed, went_on}
@@ -17,30 +17,12 @@ use Rattle.command.specs.Fields.{fields_by}
 use Rattle.command.specs.Commands.{Message, numbered}
 use Rattle.answer.specs.Answers.{answer_layout_of, Reply, answer_address, replying, naming_answer, dissecting_answer}
 
-module _ (s : List ℕ) (t : Telegram) where
-  pub answer-unknown : {n : ℕ} → row_of t.command ≡ refused n → refused n ≡ naming_answer s t
-  unfolding naming_answer
-  answer-unknown e = simp e
-
-  module _ (r : Row) (e : row_of t.command ≡ done r) where
-    pub answer-none : r.answer ≡ 0 → refused 6 ≡ naming_answer s t
-    unfolding naming_answer
-    answer-none z = simp (e, eq-eqb _ _ z)
-
-    pub answer-from : (r.answer ≡ 0 → ⊥) → answer_address t.command t.address.0 ≡ false → refused 7 ≡ naming_answer s t
-    unfolding naming_answer
-    answer-from z a = simp (e, ne_eqb _ _ z, a)
-
-    module _ (z : r.answer ≡ 0 → ⊥) (a : answer_address t.command t.address.0 ≡ true) where
-      pub answer-size : (t.size ≡ r.answer → ⊥) → refused 8 ≡ naming_answer s t
-      unfolding naming_answer
-      answer-size f = simp (e, ne_eqb _ _ z, a, ne_eqb _ _ f)
-
-      pub answer-done : t.size ≡ r.answer
-          → (m : Message) → m ≡ numbered t.command (fields_by (answer_layout_of t.command) (payload_in s t.size))
-          → done (record { address = t.address.0; message = m }) ≡ naming_answer s t
-      unfolding naming_answer
-      answer-done f m h = simp (e, ne_eqb _ _ z, a, eq-eqb _ _ f, h)
+pub answer-done : (s : List ℕ) (t : Telegram) (r : Row) → row_of t.command ≡ done r → (r.answer ≡ 0 → ⊥)
+    → answer_address t.command t.address.0 ≡ true → t.size ≡ r.answer
+    → (m : Message) → m ≡ numbered t.command (fields_by (answer_layout_of t.command) (payload_in s t.size))
+    → done (record { address = t.address.0; message = m }) ≡ naming_answer s t
+unfolding naming_answer
+answer-done s t r e z a f m h = simp (e, ne_eqb _ _ z, a, eq-eqb _ _ f, h)
 
 -- What an accepted answer has behind the reader.
 pub record Replied (s : List ℕ) (t : Telegram) (a : Reply) : Type 0 where

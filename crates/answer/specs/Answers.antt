@@ -1,9 +1,10 @@
 -- Document 01, "Commands", on answers: their values and layouts, and what the answer dissector gives. Document 02, request 02: answers
 -- to acknowledged commands.
 -- Assumes nothing.
-use Rattle.std.specs.Prelude.{ℕ, Bool, cond, not, ◌||◌, List, [], ◌∷◌, eqb, leb}
+use Rattle.std.specs.Prelude.{ℕ, Bool, cond, not, ◌||◌, Result, Ok, Err, List, [], ◌∷◌, eqb, leb}
 use Rattle.telegram.specs.Numbers.{Outcome, refused_for, done, refuse, after, reason_of}
 use Rattle.telegram.specs.Telegram.{reading, payload_in}
+use Rattle.telegram.specs.declared.Refusal.{Refusal}
 use Rattle.telegram.specs.declared.Telegram.{Telegram}
 use Rattle.table.specs.Table.{row_of}
 use Rattle.table.specs.declared.Row.{Row}
@@ -15,8 +16,6 @@ use Rattle.answer.specs.declared.Acknowledged.TheVariants.{GoSleep, GoActive, Go
 use Rattle.answer.specs.declared.Answer.{Answer}
 use Rattle.answer.specs.declared.Answer.TheVariants.{InitBidir, InitLoop, Identity, Mask, Status, TempStatus, Temp, Thresholds, Setup, Words, Acknowledgement}
 use Rattle.answer.specs.declared.Answered.{Answered}
-use Rattle.answer.specs.declared.AnswerDissection.{AnswerDissection}
-use Rattle.answer.specs.declared.AnswerDissection.TheVariants.{Accepted, Refused}
 
 -- The number of each acknowledged command.
 abbrev pub acknowledged_number : Acknowledged → ℕ
@@ -56,9 +55,9 @@ abbrev pub reply_of : Answered → Reply
 reply_of a = record { address = a.address.0; message = answer_message_of a.answer }
 
 -- The answer dissector's answer: its refusal, or done with the reply.
-abbrev pub reply_as : AnswerDissection → Outcome Reply
-reply_as (Accepted a) = done (reply_of a)
-reply_as (Refused e) = refused_for (reason_of e)
+abbrev pub reply_as : Result Answered Refusal → Outcome Reply
+reply_as (Ok a) = done (reply_of a)
+reply_as (Err e) = refused_for (reason_of e)
 
 -- An answer's address is 001 to 3EF, for 02 and 03 also 000.
 abbrev pub answer_address : ℕ → ℕ → Bool

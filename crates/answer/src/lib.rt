@@ -1,16 +1,15 @@
 // Answers: document 01, "Commands", on answers.
 #![tactic(auto)]
 
-ghost use Rattle.std.specs.Prelude.{◌≡◌, ◌+◌, ◌*◌, ◌≤◌, ◌<◌, true, [], ◌∷◌, length};
+ghost use Rattle.std.specs.Prelude.{◌≡◌, ◌+◌, ◌*◌, ◌≤◌, ◌<◌, true, length};
 ghost use Rattle.telegram.specs.Numbers.{done};
 ghost use Rattle.table.specs.Table.{answer_size_of, acknowledged};
-ghost use Rattle.command.specs.Fields.{octets, long as long_layout, fields_by};
-ghost use Rattle.command.specs.Commands.{numbered, parts_by};
+ghost use Rattle.command.specs.Fields.{fields_by};
+ghost use Rattle.command.specs.Commands.{numbered};
 ghost use Rattle.answer.specs.Answers.{answer_layout_of, acknowledged_number, answer_message_of, answer_address, answer_laid_out, reply_as, naming_answer, dissecting_answer};
 
-use command::{Parts, Pwm};
-use table::Entry;
-use telegram::{Address, Read, Refusal, Telegram};
+use command::{Parts, Pwm, octets_parts};
+use telegram::{Address, Refusal, Telegram};
 
 // The acknowledged commands, whose answers are alike.
 #[derive(Clone, Copy)]
@@ -47,21 +46,8 @@ pub struct Answered {
     pub answer: Answer,
 }
 
-// What the answer dissector answers.
-#[derive(Clone, Copy)]
-pub enum AnswerDissection {
-    Accepted(Answered),
-    Refused(Refusal),
-}
-
-// The number of two words, high word first.
-fn long(high: u16, low: u16) -> u32
-    ensures { result ≡ high * 65536 + low }
-{
-    high as u32 * 65536 + low as u32
-}
-
-// The acknowledged command of a number.
+// The acknowledged command of a number that is one. No TryFrom, since its caller knows that: the error could not come.
+#[tactic(auto, unfolding(table::specs::Table::acknowledged))]
 fn acknowledged_of(n: u8) -> Acknowledged
     requires { acknowledged n ≡ true }
     ensures { acknowledged_number result ≡ n }
@@ -78,22 +64,25 @@ fn acknowledged_of(n: u8) -> Acknowledged
     }
 }
 
-// The number of an acknowledged command.
-fn number_of(c: Acknowledged) -> u8
-    ensures { result ≡ acknowledged_number c }
-{
-    match c {
-        Acknowledged::GoSleep => 0x24,
-        Acknowledged::GoActive => 0x25,
-        Acknowledged::GoDeepSleep => 0x26,
-        Acknowledged::SetMult => 0x2D,
-        Acknowledged::SetThresholds => 0x6B,
-        Acknowledged::SetSetup => 0x6D,
-        Acknowledged::SetPwm => 0x6F,
+// An acknowledged command as its number.
+impl From<Acknowledged> for u8 {
+    ghost from_gives = { λ c n. n ≡ acknowledged_number c };
+
+    fn from(c: Acknowledged) -> u8 {
+        match c {
+            Acknowledged::GoSleep => 0x24,
+            Acknowledged::GoActive => 0x25,
+            Acknowledged::GoDeepSleep => 0x26,
+            Acknowledged::SetMult => 0x2D,
+            Acknowledged::SetThresholds => 0x6B,
+            Acknowledged::SetSetup => 0x6D,
+            Acknowledged::SetPwm => 0x6F,
+        }
     }
 }
 
 // The answer of a number that has answers, with the values in its bytes.
+#[tactic(auto, unfolding(crate::specs::Answers::answer_layout_of, table::specs::Table::row_of, table::specs::Table::acknowledged))]
 fn answer_of(n: u8, p: &[u8]) -> Answer
     requires { (answer_size_of n ≡ done (length p.now)) × (0 < length p.now) }
     ensures { answer_message_of result ≡ numbered n (fields_by (answer_layout_of n) p.now) }
@@ -101,7 +90,7 @@ fn answer_of(n: u8, p: &[u8]) -> Answer
     match n {
         0x02 => Answer::InitBidir(p[0], p[1]),
         0x03 => Answer::InitLoop(p[0], p[1]),
-        0x07 => Answer::Identity(long(bits::word(p[0], p[1]), bits::word(p[2], p[3]))),
+        0x07 => Answer::Identity(u32::from_be_bytes([p[0], p[1], p[2], p[3]])),
         0x0C => Answer::Mask(bits::word(p[0], p[1])),
         0x40 => Answer::Status(p[0]),
         0x42 => Answer::TempStatus(p[0], p[1]),
@@ -123,101 +112,65 @@ fn answer_address(n: u8, a: u16) -> bool
     ensures { result ≡ answer_address n a }
 {
     if a == 0 {
-        return bits::or(n == 0x02, n == 0x03);
+        return n == 0x02 || n == 0x03;
     }
     a <= 0x3EF
 }
 
 // What a telegram that was read is as an answer. Refusals 6, 7, 8.
-fn name_answer(s: &[u8], t: Telegram) -> AnswerDissection
+#[tactic(auto, unfolding(crate::specs::Answers::naming_answer))]
+fn name_answer(s: &[u8], t: Telegram) -> Result<Answered, Refusal>
     requires { 3 + t.size ≤ length s.now }
     ensures { reply_as result ≡ naming_answer s.now t }
 {
-    let n = t.command;
-    let entry = table::row_of(n);
-    let Entry::Known(row) = entry else {
-        return AnswerDissection::Refused(Refusal::UnknownCommand);
+    let Some(row) = table::row_of(t.command) else {
+        return Err(Refusal::UnknownCommand);
     };
-    let answer_size = row.answer;
-    if answer_size == 0 {
-        return AnswerDissection::Refused(Refusal::UnknownCommand);
+    if row.answer == 0 {
+        return Err(Refusal::UnknownCommand);
     }
-    let address = t.address;
-    if !answer_address(n, address.0) {
-        return AnswerDissection::Refused(Refusal::CastNotAllowed);
+    if !answer_address(t.command, t.address.0) {
+        return Err(Refusal::CastNotAllowed);
     }
-    let size = t.size;
-    if size != answer_size {
-        return AnswerDissection::Refused(Refusal::PayloadSize);
+    if t.size != row.answer {
+        return Err(Refusal::PayloadSize);
     }
-    let end = 3 + size;
-    let answer = answer_of(n, &s[3..end]);
-    AnswerDissection::Accepted(Answered { address, answer })
+    Ok(Answered {
+        address: t.address,
+        answer: answer_of(t.command, &s[3..3 + t.size]),
+    })
 }
 
 // The answer dissector. Refusals 1 to 8.
-pub fn dissect_answer(s: &[u8]) -> AnswerDissection
+#[tactic(auto, unfolding(crate::specs::Answers::dissecting_answer))]
+pub fn dissect_answer(s: &[u8]) -> Result<Answered, Refusal>
     ensures { reply_as result ≡ dissecting_answer s.now }
 {
     let r = telegram::read_telegram(s);
-    let Read::Accepted(t) = r else {
-        return AnswerDissection::Refused(telegram::refusal_of(r));
+    let Ok(t) = r else {
+        return Err(r.unwrap_err());
     };
     name_answer(s, t)
 }
 
-// An answer whose two bytes are its values.
-fn two_bytes(number: u8, x: u8, y: u8) -> Parts
-    ensures { result ≡ parts_by octets (numbered number (x ∷ y ∷ [])) }
-{
-    Parts {
-        number,
-        bytes: [x, y, 0, 0, 0, 0, 0, 0],
-        size: 2,
-        fit: true,
-    }
-}
-
-// An answer that holds one number of four bytes.
-fn long_parts(number: u8, x: u32) -> Parts
-    ensures { result ≡ parts_by long_layout (numbered number (x ∷ [])) }
-{
-    let high = x / 65536;
-    let low = x % 65536;
-    Parts {
-        number,
-        bytes: [
-            (high / 256) as u8,
-            (high % 256) as u8,
-            (low / 256) as u8,
-            (low % 256) as u8,
-            0,
-            0,
-            0,
-            0,
-        ],
-        size: 4,
-        fit: true,
-    }
-}
-
 // An answer laid out, for the raw builder.
+#[tactic(auto, unfolding(crate::specs::Answers::answer_layout_of))]
 pub fn answer_parts(a: Answer) -> Parts
     ensures { result ≡ answer_laid_out (answer_message_of a) }
 {
     match a {
-        Answer::InitBidir(temperature, status) => two_bytes(0x02, temperature, status),
-        Answer::InitLoop(temperature, status) => two_bytes(0x03, temperature, status),
-        Answer::Identity(identity) => long_parts(0x07, identity),
+        Answer::InitBidir(temperature, status) => octets_parts(0x02, &[temperature, status]),
+        Answer::InitLoop(temperature, status) => octets_parts(0x03, &[temperature, status]),
+        Answer::Identity(identity) => octets_parts(0x07, &identity.to_be_bytes()),
         Answer::Mask(mask) => command::word_parts(0x0C, mask),
-        Answer::Status(status) => command::one_byte(0x40, status),
-        Answer::TempStatus(temperature, status) => two_bytes(0x42, temperature, status),
-        Answer::Temp(temperature) => command::one_byte(0x48, temperature),
-        Answer::Thresholds(x, y, z) => command::three_bytes(0x4A, x, y, z),
-        Answer::Setup(x) => command::one_byte(0x4C, x),
+        Answer::Status(status) => octets_parts(0x40, &[status]),
+        Answer::TempStatus(temperature, status) => octets_parts(0x42, &[temperature, status]),
+        Answer::Temp(temperature) => octets_parts(0x48, &[temperature]),
+        Answer::Thresholds(x, y, z) => octets_parts(0x4A, &[x, y, z]),
+        Answer::Setup(x) => octets_parts(0x4C, &[x]),
         Answer::Words(r, g, b) => command::pwm_parts(0x4E, r, g, b),
         Answer::Acknowledgement(c, temperature, status) => {
-            two_bytes(number_of(c), temperature, status)
+            octets_parts(u8::from(c), &[temperature, status])
         }
     }
 }

@@ -1,23 +1,25 @@
-// Two tests joined, and a word and its two bytes: what every layer above uses.
+// Two tests joined, and a word and its two bytes. docs/PROMISES.md names these functions; `word`, `high` and `low` say what a word is in the
+// numbers of the definitions, where `to_be_bytes` gives an array that cannot stand among other bytes: no plainer.
 #![tactic(auto)]
 
 ghost use Rattle.std.specs.Prelude.{◌≡◌, ◌&&◌, ◌||◌, ◌+◌, ◌*◌, ◌/◌, ◌%◌};
 
-// Whether both hold.
+// Whether both hold. Both are always evaluated, without a branch, as by `&`. The crates here write `&&` and `&`.
 pub fn and(a: bool, b: bool) -> bool
     ensures { result ≡ (a && b) }
 {
-    if a { b } else { false }
+    a & b
 }
 
-// Whether one of two holds.
+// Whether one of two holds, in the same way.
 pub fn or(a: bool, b: bool) -> bool
     ensures { result ≡ (a || b) }
 {
-    if a { true } else { b }
+    a | b
 }
 
-// A word, high byte first.
+// A word, high byte first. (By `from_be_bytes` and `to_be_bytes` GO to everyone took six times the instructions: the compiler then
+// reads and writes each word of a slot anew.)
 pub fn word(high: u8, low: u8) -> u16
     ensures { result ≡ high * 256 + low }
 {

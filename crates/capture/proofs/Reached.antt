@@ -12,7 +12,8 @@ use Rattle.capture.specs.State.{Standing, going, ended, stopped_for, stopped, ch
 use Rattle.capture.specs.Run.{wrapped, run, at_end}
 use Rattle.capture.specs.Calls.{joined}
 use Rattle.capture.specs.Uncut.{Taken, Position, AllAccepted, AcceptedAreGiven, LeftBySome, TakenIsLeft, LeftIsTaken}
-use Rattle.capture.proofs.States.{both, carried-incomplete, none-ended, none-stopped, Stops, by_number, by-checksums, stops_as, is-carrying, is-resting}
+use Rattle.std.proofs.lemmas.Bool.{and_parts}
+use Rattle.capture.proofs.States.{carried-incomplete, none-ended, none-stopped, Stops, by_number, by-checksums, stops_as, is-carrying, is-resting}
 use Rattle.capture.proofs.Runs.{Gives, shows, behind, uncut}
 use Rattle.capture.proofs.Accepting.{accepted-are-given}
 use Rattle.capture.proofs.Taken.{taken-fresh, taken-run, taken-end}
@@ -25,7 +26,7 @@ small (b ∷ l) = ltb b 256 && small l
 
 bytes-by : (l : List ℕ) → small l ≡ true → Bytes l
 bytes-by [] e = bytes-none
-bytes-by (b ∷ l) e = let q = both (ltb b 256) (small l) e in bytes-cons b l (ltb-true b 256 q.0) (bytes-by l q.1)
+bytes-by (b ∷ l) e = let q = and_parts (ltb b 256) (small l) e in bytes-cons b l (ltb-true b 256 q.0) (bytes-by l q.1)
 
 -- A run up to any position: telegrams of four and of five bytes.
 abbrev four : List ℕ

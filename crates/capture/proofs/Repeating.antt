@@ -1,7 +1,7 @@
 -- After an end or a refusal every call repeats the answer. What no bytes change, what the end of an open reading gives, and which
 -- refusals bytes give.
 -- Assumes nothing.
-use Rattle.std.proofs.Common.{◌≡◌, ℕ, ◌+◌, Bool, true, false, cond, eqb, ltb, ◌⊎◌, List, [], ◌∷◌, ◌++◌, length, take, drop, sym, refl, ap, ◌∙◌, subst, inl, inr, ⊎_elim, arith, drop_of_length-le, le-ltb, lt-ltb, eq-eqb, ne_eqb}
+use Rattle.std.proofs.Common.{◌≡◌, ◌≢◌, ℕ, ◌+◌, Bool, true, false, cond, eqb, ltb, ◌⊎◌, List, [], ◌∷◌, ◌++◌, length, take, drop, sym, refl, ap, ◌∙◌, subst, inl, inr, ⊎_elim, arith, drop_of_length-le, le-ltb, lt-ltb, eq-eqb, ne_eqb}
 use Rattle.telegram.specs.Numbers.{Reason, bare, Outcome, refused_for, done}
 use Rattle.telegram.specs.Telegram.{reading}
 use Rattle.telegram.specs.declared.Telegram.{Telegram}
@@ -9,10 +9,13 @@ use Rattle.telegram.proofs.Outcomes.{never}
 use Rattle.frame.specs.Frame.{Cutting, incomplete, broken, whole, cutting}
 use Rattle.frame.proofs.Cuts.{fault}
 use Rattle.frame.proofs.Fronts.{whole-refused}
-use Rattle.capture.specs.State.{Standing, going, ended, stopped_for, stopped, State, carrying, resting, carried_in}
+use Rattle.capture.specs.State.{Standing, going, ended, stopped_for, stopped, standing_of, State, state_of, carrying, resting, carried_in, is_left}
+use Rattle.capture.specs.declared.Phase.{Phase}
+use Rattle.capture.specs.declared.Phase.TheVariants.{Open, Ended, Stopped}
+use Rattle.capture.specs.declared.Reading.{Reading}
 use Rattle.capture.specs.Run.{wrapped, judged, grown, fed, fed_by, run, ended_by}
 use Rattle.capture.specs.Calls.{Given, without, answer_of, next_judged, next_cut, next_by, Closed, closed, scanned}
-use Rattle.capture.specs.Uncut.{Taken, NoBytesNothing, Final, EndAndRefusalRepeat, EndAndRefusalStay, EndOfOpen, RefusalsOfBytes}
+use Rattle.capture.specs.Uncut.{Taken, NoBytesNothing, Final, Repeats, EndAndRefusalRepeat, EndAndRefusalStay, EndOfOpen, RefusalsOfBytes}
 use Rattle.capture.proofs.States.{left, next-by, end_by, scan-left}
 use Rattle.capture.proofs.Runs.{Gives, stays}
 use Rattle.capture.proofs.Feeding.{next-none}
@@ -41,6 +44,16 @@ end-and-refusal-repeat s e f =
             state = sym (ap (λ (x : Gives). x.0) (stays s f l));
           };
     }
+
+-- So it is for a reading of the code that is not open.
+phase-final : (p : Phase) → p ≢ Open → Final (standing_of p)
+phase-final Open n = absurd (n refl)
+phase-final Ended n = tt
+phase-final (Stopped e) n = tt
+
+pub repeats : (r : Reading) → is_left (state_of r) ≡ true → r.phase ≢ Open → Repeats (state_of r)
+unfolding EndAndRefusalRepeat
+repeats r e n = end-and-refusal-repeat (state_of r) e (phase-final r.phase n)
 
 -- Where the chunk has no more bytes.
 none-by : (k : Standing) (s : State) (at : ℕ) → Taken s → s.standing ≡ k → next_by k [] s at ≡ without (answer_of k) at s

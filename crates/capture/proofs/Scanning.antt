@@ -1,11 +1,9 @@
 -- A chunk read byte by byte: its next byte, and a reading that reads no more.
 -- Assumes nothing.
-use Rattle.std.proofs.Common.{◌≡◌, ℕ, ◌+◌, ◌<◌, true, List, ◌∷◌, length, get_or, drop, sym, refl, ap, ◌∙◌, ap₂, add-one, length-append, drop-cons}
-use Rattle.capture.specs.State.{State, is_left}
+use Rattle.std.proofs.Common.{◌≡◌, ℕ, ◌+◌, ◌<◌, List, ◌∷◌, length, get_or, drop, refl, ap, add-one, length-append, drop-cons}
+use Rattle.capture.specs.State.{State}
 use Rattle.capture.specs.Run.{fed, given, run, telegrams_in}
-use Rattle.capture.specs.Calls.{scanned, scanning}
 use Rattle.capture.specs.Uncut.{Final}
-use Rattle.capture.proofs.States.{scan-left}
 use Rattle.capture.proofs.Runs.{Gives, stays}
 
 module _ (l : List ℕ) (i : ℕ) (h : i < length l) where
@@ -25,8 +23,3 @@ pub halted : (z : State) (l : List ℕ) → Final z.standing → (run z l ≡ z)
 halted z l f =
     let e = stays z f l in
     (ap (λ (g : Gives). g.0) e, ap (λ (g : Gives). length g.1) e)
-
-pub scan-final : (l : List ℕ) (s : State) → is_left s ≡ true → Final s.standing → scanned 0 s ≡ scanning l s
-scan-final l s e f =
-    let h = halted s l f in
-    sym (ap₂ (λ (n : ℕ) (z : State). scanned n z) h.1 h.0) ∙ scan-left l s e

@@ -2,8 +2,9 @@
 -- by its standing, its position and the bytes that it carries. Then the answers, by how the reading stands. Callers cite these and
 -- unfold neither `is_left` nor `nexting`, `closing`, `scanning`.
 -- Assumes nothing.
-use Rattle.std.proofs.Common.{◌≡◌, ℕ, zero, suc, ◌-◌, ◌<◌, ◌≤◌, Bool, true, false, not, ◌&&◌, eqb, leb, ◌≢◌, List, [], ◌∷◌, ◌++◌, length, take, drop, replicate, sym, refl, ap, ◌∙◌, subst, ap₂, arith, length-drop, take-append-drop, length-take-le, ne_eqb, eqb-true, le-leb, leb-true}
+use Rattle.std.proofs.Common.{◌≡◌, ℕ, zero, suc, ◌-◌, ◌<◌, ◌≤◌, true, false, not, eqb, leb, ◌≢◌, List, [], ◌∷◌, ◌++◌, length, take, drop, replicate, sym, refl, ap, ◌∙◌, subst, ap₂, arith, length-drop, take-append-drop, length-take-le, ne_eqb, eqb-true, le-leb, leb-true}
 use mathlib.Core.Bool.{false≢true}
+use Rattle.std.proofs.lemmas.Bool.{and_parts}
 use borrow.Author.Tests.{lt-leb, eqb-false, not-true}
 use lib.Seq.{take-append_seam, drop-append_seam}
 use Rattle.telegram.specs.Numbers.{Reason, bare, refused, wrong_checksum}
@@ -13,11 +14,6 @@ use Rattle.frame.proofs.Cuts.{incomplete-short}
 use Rattle.capture.specs.State.{Standing, going, ended, stopped_for, State, padded, carrying, resting, carried_in, zeros, is_incomplete, stops_with, stops, left_by, is_left}
 use Rattle.capture.specs.Run.{run, telegrams_in, ended_by}
 use Rattle.capture.specs.Calls.{without, next_by, nexting, Closed, closed, closing, Scanned, scanned, scanning}
-
--- Two tests that both hold.
-pub both : (a b : Bool) → (a && b) ≡ true → (a ≡ true) × (b ≡ true)
-both true b e = (refl, e)
-both false b e = let z : ◌≡◌ {A = ℕ} 0 1 = cc in absurd (omega arith)
 
 -- Whether some reading leaves a state, from what its tests show.
 pub left-many : (s : State) → 11 < s.count → false ≡ is_left s
@@ -42,8 +38,8 @@ pub record Left (s : State) : Type 0 where
 pub left : (s : State) → is_left s ≡ true → Left s
 unfolding is_left
 left s e =
-    let p = both (leb s.count 11) _ e in
-    let q = both (zeros (drop s.count s.bytes)) (left_by s.standing s) p.1 in
+    let p = and_parts (leb s.count 11) _ e in
+    let q = and_parts (zeros (drop s.count s.bytes)) (left_by s.standing s) p.1 in
     record { few = leb-true _ _ p.0; clear = q.0; stands = q.1 }
 
 is-incomplete : (k : Cutting) → is_incomplete k ≡ true → k ≡ incomplete
@@ -66,7 +62,7 @@ module _ (s : State) (e : is_left s ≡ true) where
   -- .. and so does one that was stopped, for a reason that stops a reading.
   pub none-stopped : (d : Reason) → s.standing ≡ stopped_for d → (s.count ≡ 0) × (stops d ≡ true)
   none-stopped d o =
-      let p = both (eqb s.count 0) (stops d) (stands-as (stopped_for d) o) in
+      let p = and_parts (eqb s.count 0) (stops d) (stands-as (stopped_for d) o) in
       (eqb-true _ _ p.0, p.1)
 
 -- What stops a reading: 1 to 4, or 5 with two checksums that differ.
@@ -75,10 +71,10 @@ pub data Stops : Reason → Type 0 where
   by-checksums : {c r : ℕ} → c ≢ r → Stops (wrong_checksum c r)
 
 stops-with : (n : ℕ) (l : List ℕ) → stops_with n l ≡ true → Stops (record { number = n; carries = l })
-stops-with n [] e = let q = both (leb 1 n) (leb n 4) e in by_number (leb-true _ _ q.0) (leb-true _ _ q.1)
+stops-with n [] e = let q = and_parts (leb 1 n) (leb n 4) e in by_number (leb-true _ _ q.0) (leb-true _ _ q.1)
 stops-with n (c ∷ []) e = absurd (false≢true e)
 stops-with n (c ∷ r ∷ []) e =
-    let q = both (eqb n 5) (not (eqb c r)) e in
+    let q = and_parts (eqb n 5) (not (eqb c r)) e in
     subst (λ (k : ℕ). Stops (record { number = k; carries = c ∷ r ∷ [] })) (sym (eqb-true n 5 q.0))
     (by-checksums (eqb-false c r (not-true _ q.1)))
 stops-with n (c ∷ r ∷ x ∷ l) e = absurd (false≢true e)
@@ -98,7 +94,7 @@ stops-low d (by-checksums h) = (omega arith, omega arith)
 pub zeros-all : (l : List ℕ) → zeros l ≡ true → l ≡ replicate (length l) 0
 zeros-all [] e = refl
 zeros-all (b ∷ l) e =
-    let p = both (eqb b 0) (zeros l) e in
+    let p = and_parts (eqb b 0) (zeros l) e in
     ap₂ (λ (x : ℕ) (y : List ℕ). x ∷ y) (eqb-true b 0 p.0) (zeros-all l p.1)
 
 zeros-made : (n : ℕ) → zeros (replicate n 0) ≡ true

@@ -1,6 +1,7 @@
 -- A telegram has at most twelve bytes: what the next telegram is, the first twelve bytes decide.
 -- Assumes nothing.
-use Rattle.std.proofs.Common.{◌≡◌, ℕ, ◌+◌, ◌-◌, ◌≤◌, Bool, true, false, cond, ltb, List, ◌++◌, length, take, drop, sym, refl, ap, ◌∙◌, ⊎_elim, arith, length-append, take-append-drop, length-take-le, take-take, ltb-true}
+use Rattle.std.proofs.Common.{◌≡◌, ℕ, ◌+◌, ◌-◌, ◌<◌, ◌≤◌, min, List, ◌++◌, length, take, drop, sym, refl, ap, ◌∙◌, ⊎_elim, arith, length-append, take-append-drop, length-take-le, take-take}
+use Rattle.std.proofs.lemmas.Bool.{cases_lt}
 use lib.Seq.{take-append-add, take-length}
 use Rattle.telegram.specs.Telegram.{reading, Bytes}
 use Rattle.frame.specs.Frame.{Cutting, incomplete, broken, whole, cutting}
@@ -30,14 +31,13 @@ module _ (w : List ℕ) (y : Bytes w) (h : 12 ≤ length w) where
 
 -- The bytes c that are carried with those of the chunk, l, behind them, twelve at most.
 module _ (c l : List ℕ) (y : Bytes (c ++ l)) (h : length c ≤ 12) (s : State) (at : ℕ) where
-  up_by : (b : Bool) → ltb (12 - length c) (length l) ≡ b → (m : ℕ) → m ≡ cond b (12 - length c) (length l)
+  pub up-to-twelve : (m : ℕ) → m ≡ min (12 - length c) (length l)
       → next_cut (cutting (c ++ take m l)) (c ++ take m l) m s at ≡ next_cut (cutting (c ++ l)) (c ++ l) (length l) s at
-  up_by true e m q =
+  up-to-twelve m q =
+      ⊎_elim
+      (λ (e : 12 - length c < length l).
       let n : length c + m ≡ 12 = omega arith in
       let t : take 12 (c ++ l) ≡ c ++ take m l = sym (ap (λ (i : ℕ). take i (c ++ l)) n) ∙ take-append-add c l m in
-      rw (← t) (twelve (c ++ l) y (simp length-append (omega (arith, ltb-true (12 - length c) (length l) e))) m (length l) s at)
-  up_by false e m q = rw (q, take-length l) refl
-
-  pub up-to-twelve : (m : ℕ) → m ≡ cond (ltb (12 - length c) (length l)) (12 - length c) (length l)
-      → next_cut (cutting (c ++ take m l)) (c ++ take m l) m s at ≡ next_cut (cutting (c ++ l)) (c ++ l) (length l) s at
-  up-to-twelve m q = up_by (ltb (12 - length c) (length l)) refl m q
+      rw (← t) (twelve (c ++ l) y (simp length-append (omega arith)) m (length l) s at))
+      (λ (e : length l ≤ 12 - length c). let n : m ≡ length l = omega arith in rw (n, take-length l) refl)
+      (cases_lt (12 - length c) (length l))

@@ -1,12 +1,13 @@
 -- Request 01, "Captures as they arrive": what each call on a chunk gives back and leaves, and a list of chunks read by such calls.
 -- Assumes nothing.
-use Rattle.std.specs.Prelude.{◌≡◌, ℕ, ◌+◌, ◌-◌, cond, List, [], ◌∷◌, ◌++◌, length, take, drop}
+use Rattle.std.specs.Prelude.{◌≡◌, ℕ, ◌+◌, ◌-◌, cond, Result, Ok, Err, List, [], ◌∷◌, ◌++◌, length, take, drop}
 use Rattle.telegram.specs.Numbers.{Outcome, refused_for, refused, done, reason_of}
 use Rattle.telegram.specs.Telegram.{reading}
 use Rattle.telegram.specs.declared.Telegram.{Telegram as Fields}
 use Rattle.frame.specs.Frame.{Cutting, incomplete, broken, whole, cutting}
-use Rattle.capture.specs.declared.Step.{Step}
-use Rattle.capture.specs.declared.Step.TheVariants.{Telegram, More, Ended, Refused}
+use Rattle.telegram.specs.declared.Refusal.{Refusal}
+use Rattle.capture.specs.declared.Reply.{Reply as Told}
+use Rattle.capture.specs.declared.Reply.TheVariants.{Telegram, More, Ended}
 use Rattle.capture.specs.declared.Next.{Next}
 use Rattle.capture.specs.declared.Closing.{Closing}
 use Rattle.capture.specs.declared.Scan.{Scan}
@@ -19,12 +20,12 @@ pub data Reply : Type 0 where
   more : Reply
   over : Reply
 
--- The code's step in these terms.
-abbrev pub step_as : Step → Outcome Reply
-step_as (Telegram t) = done (telegram t)
-step_as More = done more
-step_as Ended = done over
-step_as (Refused e) = refused_for (reason_of e)
+-- The code's answer in these terms.
+abbrev pub answer_as : Result Told Refusal → Outcome Reply
+answer_as (Ok (Telegram t)) = done (telegram t)
+answer_as (Ok More) = done more
+answer_as (Ok Ended) = done over
+answer_as (Err e) = refused_for (reason_of e)
 
 -- What a call for the next telegram gives and leaves: the telegram's bytes with zeros behind them (all zeros where there is none), the
 -- index in the chunk from which the next call reads on, and the state.
@@ -35,7 +36,7 @@ pub record Given : Type 0 where
   pub state : State
 
 abbrev pub next_as : Next → Given
-next_as n = record { answer = step_as n.step; bytes = n.bytes; at = n.at; state = state_of n.reading }
+next_as n = record { answer = answer_as n.answer; bytes = n.bytes; at = n.at; state = state_of n.reading }
 
 -- An answer without a telegram.
 abbrev pub without : Outcome Reply → ℕ → State → Given
@@ -75,7 +76,7 @@ pub record Closed : Type 0 where
   pub state : State
 
 abbrev pub closing_as : Closing → Closed
-closing_as c = record { answer = step_as c.step; state = state_of c.reading }
+closing_as c = record { answer = answer_as c.answer; state = state_of c.reading }
 
 abbrev pub closed : State → Closed
 closed s = record { answer = answer_of s.standing; state = s }
@@ -92,7 +93,7 @@ pub record Scanned : Type 0 where
   pub state : State
 
 abbrev pub scan_as : Scan → Scanned
-scan_as s = record { answer = step_as s.step; telegrams = s.telegrams; position = s.position; state = state_of s.reading }
+scan_as s = record { answer = answer_as s.answer; telegrams = s.telegrams; position = s.position; state = state_of s.reading }
 
 abbrev pub scanned : ℕ → State → Scanned
 scanned n s = record { answer = answer_of s.standing; telegrams = n; position = s.position; state = s }

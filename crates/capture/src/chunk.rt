@@ -1,4 +1,5 @@
 // A reader over a lent chunk, which remembers where it stands: the chunk, what the chunk before left, and the index of the next byte.
+// docs/PROMISES.md and docs/DECISIONS.md name what works on it as functions, so they are no methods.
 ghost use Rattle.std.specs.Prelude.{◌≡◌};
 ghost use Rattle.capture.specs.State.{state_of};
 ghost use Rattle.capture.specs.Calls.{next_as, nexting};

@@ -1,15 +1,17 @@
 // The next telegram of an open reading, from the bytes carried and those of the chunk.
-ghost use Rattle.std.specs.Prelude.{◌≡◌, ◌+◌, ◌-◌, ◌<◌, ◌≤◌, true, ◌++◌, length, take, drop, if◌then◌else◌, nat_lt};
+// That a reading is open and that some reading leaves its state stand in four contracts of this crate. `next_at` takes every `Reading` and
+// answers 11 for the others, so a type of its own for them would be made of one and turned into one at each call: no plainer.
+ghost use Rattle.std.specs.Prelude.{◌≡◌, ◌+◌, ◌-◌, ◌<◌, ◌≤◌, true, ◌++◌, length, take, drop};
 ghost use Rattle.telegram.specs.Numbers.{refused_for, reason_of};
 ghost use Rattle.telegram.specs.Telegram.{reading};
 ghost use Rattle.frame.specs.Frame.{incomplete, cutting};
 ghost use Rattle.capture.specs.State.{state_of, standing_of, stopped_for, going, padded, is_left, resting as resting_at};
-ghost use Rattle.capture.specs.Calls.{step_as, next_as, without, next_judged, next_cut, next_by};
+ghost use Rattle.capture.specs.Calls.{answer_as, next_as, without, next_judged, next_cut, next_by};
 
 use crate::state::resting;
-use crate::{Next, Phase, Reading, Step};
+use crate::{Next, Phase, Reading, Reply};
 use frame::Cut;
-use telegram::{Read, Refusal};
+use telegram::Refusal;
 
 // Twelve bytes with those of a slice put over them from an index on.
 pub(crate) fn placed(into: [u8; 12], at: usize, s: &[u8]) -> [u8; 12]
@@ -17,20 +19,16 @@ pub(crate) fn placed(into: [u8; 12], at: usize, s: &[u8]) -> [u8; 12]
     ensures { result ≡ (take at into ++ s.now) ++ drop (at + length s.now) into }
 {
     let mut bytes = into;
-    let mut i = 0;
-    while i < s.len() {
-        bytes[at + i] = s[i];
-        i += 1;
-    }
+    bytes[at..at + s.len()].copy_from_slice(s);
     bytes
 }
 
 // An answer without a telegram.
-pub(crate) fn bare(step: Step, at: usize, reading: Reading) -> Next
-    ensures { next_as result ≡ without (step_as step) at (state_of reading) }
+pub(crate) fn bare(answer: Result<Reply, Refusal>, at: usize, reading: Reading) -> Next
+    ensures { next_as result ≡ without (answer_as answer) at (state_of reading) }
 {
     Next {
-        step,
+        answer,
         bytes: [0; 12],
         at,
         reading,
@@ -41,7 +39,7 @@ pub(crate) fn bare(step: Step, at: usize, reading: Reading) -> Next
 fn stop(e: Refusal, position: u64, at: usize) -> Next
     ensures { next_as result ≡ without (refused_for (reason_of e)) at (resting_at (stopped_for (reason_of e)) position) }
 {
-    bare(Step::Refused(e), at, resting(Phase::Stopped(e), position))
+    bare(Err(e), at, resting(Phase::Stopped(e), position))
 }
 
 // A whole telegram, of which the first `count` bytes were carried.
@@ -51,12 +49,12 @@ fn next_whole(s: &[u8], carried: Reading, at: usize) -> Next
 {
     let position = carried.position;
     let r = telegram::read_telegram(s);
-    let Read::Accepted(t) = r else {
-        return stop(telegram::refusal_of(r), position, at);
+    let Ok(t) = r else {
+        return stop(r.unwrap_err(), position, at);
     };
     let k = s.len();
     Next {
-        step: Step::Telegram(t),
+        answer: Ok(Reply::Telegram(t)),
         bytes: placed([0; 12], 0, s),
         at: at + (k - carried.count),
         reading: resting(Phase::Open, position.wrapping_add(k as u64)),
@@ -69,10 +67,9 @@ fn next_in(bytes: [u8; 12], n: usize, carried: Reading, at: usize) -> Next
     ensures { next_as result ≡ next_cut (cutting (take n bytes)) (take n bytes) (n - carried.count) (state_of carried) at }
 {
     let position = carried.position;
-    let shown = frame::cut_first(&bytes[..n]);
-    match shown {
+    match frame::cut_first(&bytes[..n]) {
         Cut::Incomplete => Next {
-            step: Step::More,
+            answer: Ok(Reply::More),
             bytes: [0; 12],
             at: at + (n - carried.count),
             reading: Reading {
@@ -87,23 +84,14 @@ fn next_in(bytes: [u8; 12], n: usize, carried: Reading, at: usize) -> Next
     }
 }
 
-// The smaller of two numbers.
-fn smaller(a: usize, b: usize) -> usize
-    ensures { (result ≡ (if nat_lt a b then a else b)) × (result ≤ a) × (result ≤ b) }
-{
-    if a < b { a } else { b }
-}
-
 // The next telegram where the chunk has bytes left: the bytes carried with those behind them, twelve at most.
 fn next_across(chunk: &[u8], carried: Reading, at: usize) -> Next
     requires { (is_left (state_of carried) ≡ true) × (standing_of carried.phase ≡ going) × (at < length chunk.now) }
     ensures { next_as result ≡ next_by going (drop at chunk.now) (state_of carried) at }
 {
     let count = carried.count;
-    let before = carried.bytes;
-    let m = smaller(12 - count, chunk.len() - at);
-    let end = at + m;
-    let bytes = placed(before, count, &chunk[at..end]);
+    let m = (12 - count).min(chunk.len() - at);
+    let bytes = placed(carried.bytes, count, &chunk[at..at + m]);
     next_in(bytes, count + m, carried, at)
 }
 
@@ -113,7 +101,7 @@ pub(crate) fn next_open(chunk: &[u8], carried: Reading, at: usize) -> Next
     ensures { next_as result ≡ next_by going (drop at chunk.now) (state_of carried) at }
 {
     if chunk.len() <= at {
-        return bare(Step::More, at, carried);
+        return bare(Ok(Reply::More), at, carried);
     }
     next_across(chunk, carried, at)
 }

@@ -9,7 +9,7 @@ mod whole_chunk;
 ghost use Rattle.std.specs.Prelude.{◌≡◌};
 ghost use Rattle.capture.specs.State.{state_of, standing_of};
 ghost use Rattle.capture.specs.Run.{left_over};
-ghost use Rattle.capture.specs.Calls.{step_as, answer_of, next_as, nexting, closing_as, closing, scan_as, scanning};
+ghost use Rattle.capture.specs.Calls.{answer_as, answer_of, next_as, nexting, closing_as, closing, scan_as, scanning};
 
 pub use chunk::{Reader, advanced, over_chunk, read_next};
 use gather::{bare, next_open};
@@ -17,7 +17,8 @@ pub use state::{is_left, resting};
 use telegram::{Refusal, Telegram};
 use whole_chunk::scan_open;
 
-// Whether a reading goes on: open, ended, or stopped by a refusal.
+// Whether a reading goes on: open, ended, or stopped by a refusal. An enum of its own: a standing that is kept, no answer of a call, so a
+// Result would say less.
 #[derive(Clone, Copy)]
 pub enum Phase {
     Open,
@@ -35,19 +36,18 @@ pub struct Reading {
     pub bytes: [u8; 12],
 }
 
-// What a call gives: a telegram, that more bytes are needed, that the run is done, or a refusal.
+// What a call gives that refuses nothing: a telegram, that more bytes are needed, or that the run is done.
 #[derive(Clone, Copy)]
-pub enum Step {
+pub enum Reply {
     Telegram(Telegram),
     More,
     Ended,
-    Refused(Refusal),
 }
 
 // The next telegram of a chunk: its bytes with zeros behind them, the index from which the next call reads on, and the reading after it.
 #[derive(Clone, Copy)]
 pub struct Next {
-    pub step: Step,
+    pub answer: Result<Reply, Refusal>,
     pub bytes: [u8; 12],
     pub at: usize,
     pub reading: Reading,
@@ -56,27 +56,27 @@ pub struct Next {
 // The end of a run.
 #[derive(Clone, Copy)]
 pub struct Closing {
-    pub step: Step,
+    pub answer: Result<Reply, Refusal>,
     pub reading: Reading,
 }
 
 // A whole chunk: how many telegrams it completed, the position of the first byte that belongs to none, and the reading after it.
 #[derive(Clone, Copy)]
 pub struct Scan {
-    pub step: Step,
+    pub answer: Result<Reply, Refusal>,
     pub telegrams: usize,
     pub position: u64,
     pub reading: Reading,
 }
 
 // The answer that a reading repeats.
-pub(crate) fn step_of(phase: Phase) -> Step
-    ensures { step_as result ≡ answer_of (standing_of phase) }
+pub(crate) fn answer_of(phase: Phase) -> Result<Reply, Refusal>
+    ensures { answer_as result ≡ answer_of (standing_of phase) }
 {
     match phase {
-        Phase::Open => Step::More,
-        Phase::Ended => Step::Ended,
-        Phase::Stopped(e) => Step::Refused(e),
+        Phase::Open => Ok(Reply::More),
+        Phase::Ended => Ok(Reply::Ended),
+        Phase::Stopped(e) => Err(e),
     }
 }
 
@@ -84,15 +84,13 @@ pub(crate) fn step_of(phase: Phase) -> Step
 pub fn next_at(chunk: &[u8], carried: Reading, at: usize) -> Next
     ensures { next_as result ≡ nexting chunk.now (state_of carried) at }
 {
-    let phase = carried.phase;
     if !is_left(carried) {
-        return bare(Step::Refused(Refusal::NoChain), at, carried);
+        return bare(Err(Refusal::NoChain), at, carried);
     }
-    match phase {
-        Phase::Open => next_open(chunk, carried, at),
-        Phase::Ended => bare(Step::Ended, at, carried),
-        Phase::Stopped(e) => bare(Step::Refused(e), at, carried),
-    }
+    let Phase::Open = carried.phase else {
+        return bare(answer_of(carried.phase), at, carried);
+    };
+    next_open(chunk, carried, at)
 }
 
 // What the end of the run makes of an open reading.
@@ -112,29 +110,22 @@ fn left_over(count: usize) -> Phase
 pub fn end_run(carried: Reading) -> Closing
     ensures { closing_as result ≡ closing (state_of carried) }
 {
-    let phase = carried.phase;
     if !is_left(carried) {
         return Closing {
-            step: Step::Refused(Refusal::NoChain),
+            answer: Err(Refusal::NoChain),
             reading: carried,
         };
     }
-    match phase {
-        Phase::Open => {
-            let last = left_over(carried.count);
-            Closing {
-                step: step_of(last),
-                reading: resting(last, carried.position),
-            }
-        }
-        Phase::Ended => Closing {
-            step: Step::Ended,
+    let Phase::Open = carried.phase else {
+        return Closing {
+            answer: answer_of(carried.phase),
             reading: carried,
-        },
-        Phase::Stopped(e) => Closing {
-            step: Step::Refused(e),
-            reading: carried,
-        },
+        };
+    };
+    let last = left_over(carried.count);
+    Closing {
+        answer: answer_of(last),
+        reading: resting(last, carried.position),
     }
 }
 
@@ -142,33 +133,27 @@ pub fn end_run(carried: Reading) -> Closing
 pub fn scan_chunk(chunk: &[u8], carried: Reading) -> Scan
     ensures { scan_as result ≡ scanning chunk.now (state_of carried) }
 {
-    let phase = carried.phase;
     if !is_left(carried) {
-        return still_scan(Step::Refused(Refusal::NoChain), 0, carried);
+        return still_scan(Err(Refusal::NoChain), 0, carried);
     }
-    match phase {
-        Phase::Open => {
-            let t = scan_open(chunk, carried);
-            let reading = t.reading;
-            let last = reading.phase;
-            Scan {
-                step: step_of(last),
-                telegrams: t.telegrams,
-                position: t.position,
-                reading,
-            }
-        }
-        Phase::Ended => still_scan(Step::Ended, carried.position, carried),
-        Phase::Stopped(e) => still_scan(Step::Refused(e), carried.position, carried),
+    let Phase::Open = carried.phase else {
+        return still_scan(answer_of(carried.phase), carried.position, carried);
+    };
+    let t = scan_open(chunk, carried);
+    Scan {
+        answer: answer_of(t.reading.phase),
+        telegrams: t.telegrams,
+        position: t.position,
+        reading: t.reading,
     }
 }
 
 // A chunk of which nothing is read.
-fn still_scan(step: Step, position: u64, reading: Reading) -> Scan
-    ensures { scan_as result ≡ record { answer = step_as step; telegrams = 0; position = position; state = state_of reading } }
+fn still_scan(answer: Result<Reply, Refusal>, position: u64, reading: Reading) -> Scan
+    ensures { scan_as result ≡ record { answer = answer_as answer; telegrams = 0; position = position; state = state_of reading } }
 {
     Scan {
-        step,
+        answer,
         telegrams: 0,
         position,
         reading,

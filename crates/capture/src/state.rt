@@ -24,7 +24,7 @@ pub fn resting(phase: Phase, position: u64) -> Reading
 fn four(a: u8, b: u8, c: u8, d: u8) -> u64
     ensures { (result ≡ a + b * 256 + c * 65536 + d * 16777216) × (result < 4294967296) }
 {
-    a as u64 + b as u64 * 256 + c as u64 * 65536 + d as u64 * 16777216
+    u32::from_le_bytes([a, b, c, d]) as u64
 }
 
 // A power of 256.
@@ -32,16 +32,7 @@ fn power(k: usize) -> u64
     requires { k ≤ 7 }
     ensures { (result ≡ 256 ^ k) × (result ≤ 72057594037927936) }
 {
-    match k {
-        0 => 1,
-        1 => 256,
-        2 => 65536,
-        3 => 16777216,
-        4 => 4294967296,
-        5 => 1099511627776,
-        6 => 281474976710656,
-        _ => 72057594037927936,
-    }
+    1 << (8 * k)
 }
 
 // Whether all bytes from an index on are zero: then the bytes, low byte first, are a number below that power of 256.
@@ -67,12 +58,7 @@ fn unfinished(bytes: [u8; 12], n: usize) -> bool
     requires { n ≤ 12 }
     ensures { result ≡ is_incomplete (cutting (take n bytes)) }
 {
-    let shown = frame::cut_first(&bytes[..n]);
-    match shown {
-        Cut::Incomplete => true,
-        Cut::Broken(_) => false,
-        Cut::Whole(_) => false,
-    }
+    matches!(frame::cut_first(&bytes[..n]), Cut::Incomplete)
 }
 
 // Whether a refusal stops a reading: 5 whose checksums differ, or 1 to 4.
@@ -80,19 +66,9 @@ fn stops(e: Refusal) -> bool
     ensures { result ≡ stops_reading (reason_of e) }
 {
     match e {
-        Refusal::TooShort => true,
-        Refusal::Preamble => true,
-        Refusal::SizeIndex => true,
-        Refusal::ByteCount => true,
+        Refusal::TooShort | Refusal::Preamble | Refusal::SizeIndex | Refusal::ByteCount => true,
         Refusal::Checksum(computed, received) => computed != received,
-        Refusal::UnknownCommand => false,
-        Refusal::CastNotAllowed => false,
-        Refusal::PayloadSize => false,
-        Refusal::RoomTooSmall => false,
-        Refusal::OutOfRange => false,
-        Refusal::NoChain => false,
-        Refusal::InitPastEnd => false,
-        Refusal::NoLamp => false,
+        _ => false,
     }
 }
 
@@ -100,23 +76,12 @@ fn stops(e: Refusal) -> bool
 pub fn is_left(s: Reading) -> bool
     ensures { result ≡ is_left (state_of s) }
 {
-    let n = s.count;
-    let bytes = s.bytes;
-    let phase = s.phase;
-    if 11 < n {
+    if 11 < s.count || !zero_from(s.bytes, s.count) {
         return false;
     }
-    if !zero_from(bytes, n) {
-        return false;
-    }
-    match phase {
-        Phase::Open => unfinished(bytes, n),
-        Phase::Ended => n == 0,
-        Phase::Stopped(e) => {
-            if n != 0 {
-                return false;
-            }
-            stops(e)
-        }
+    match s.phase {
+        Phase::Open => unfinished(s.bytes, s.count),
+        Phase::Ended => s.count == 0,
+        Phase::Stopped(e) => s.count == 0 && stops(e),
     }
 }

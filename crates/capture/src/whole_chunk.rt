@@ -11,9 +11,7 @@ fn feed(s: Reading, b: u8) -> Reading
     requires { (is_left (state_of s) ≡ true) × (standing_of s.phase ≡ going) }
     ensures { (state_of result ≡ fed (state_of s) b) × (is_left (state_of result) ≡ true) }
 {
-    let one = [b];
-    let next = next_open(&one, s, 0);
-    next.reading
+    next_open(&[b], s, 0).reading
 }
 
 // How many telegrams a chunk completed, the position of the first byte that belongs to none, and the reading after it.
@@ -24,7 +22,8 @@ pub(crate) struct Tally {
     pub reading: Reading,
 }
 
-// Reads the telegrams of a chunk, byte by byte, up to its end or to the position of the first refused one.
+// Reads the telegrams of a chunk, byte by byte, up to its end or to the position of the first refused one. The index is counted by hand:
+// the loop over telegrams and the byte loop inside it, left by the label, are a form of the paper (docs/DECISIONS.md), and share it.
 pub(crate) fn scan_open(chunk: &[u8], carried: Reading) -> Tally
     requires { (is_left (state_of carried) ≡ true) × (standing_of carried.phase ≡ going) }
     ensures telegrams_value { result.telegrams ≡ length (telegrams_in (state_of carried) chunk.now) }
@@ -40,18 +39,14 @@ pub(crate) fn scan_open(chunk: &[u8], carried: Reading) -> Tally
             }
             s = feed(s, chunk[i]);
             i += 1;
-            let phase = s.phase;
-            match phase {
+            match s.phase {
                 Phase::Open => {
                     if s.count == 0 {
                         n += 1;
                         break;
                     }
                 }
-                Phase::Ended => {
-                    break 'telegrams s.position;
-                }
-                Phase::Stopped(_) => {
+                Phase::Ended | Phase::Stopped(_) => {
                     break 'telegrams s.position;
                 }
             }

@@ -1,57 +1,34 @@
 // Cases on a reader of captures, whose state is the lent part of the chain memory.
-use crate::FILL;
-use crate::chains::{fill, put_all};
 use crate::line::long_at;
-use crate::printing::{print_index, print_position, print_record, print_result, print_room};
+use crate::memory::Memory;
+use crate::printing::{Out, print_result};
+use crate::room::Room;
+use std::fmt::Write;
+use text::{byte_at, from};
 
-// Whether an operation is one on a reader.
-pub(crate) fn of_a_reader(operation: u8) -> bool {
+// Runs a case on a reader.
+pub(crate) fn run_reader(operation: u8, s: &[u8], memory: &mut Memory) {
     match operation {
-        b'e' => true,
-        b'g' => true,
-        b'o' => true,
-        b'q' => true,
-        _ => false,
+        b'q' => {
+            let position = osp::osp_reader_position(memory.lent());
+            let _ = write!(Out, "  {position:016X}\n");
+            return;
+        }
+        b'o' => {
+            memory.renew(s.len());
+            memory.put(0, s);
+        }
+        b'g' => next(s, memory.lent()),
+        _ => print_result(osp::osp_reader_end(memory.lent()), b""),
     }
-}
-
-// Runs a case on a reader. Gives how much of the chain memory is lent from then on.
-pub(crate) fn run_reader(operation: u8, s: &[u8], memory: &mut [u8], lent: usize) -> usize {
-    let n = text::within(lent, memory);
-    match operation {
-        b'o' => put_state(s, memory),
-        b'g' => {
-            next(s, &mut memory[..n]);
-            print_record(memory, n);
-            lent
-        }
-        b'e' => {
-            print_result(osp::osp_reader_end(&mut memory[..n]), b"");
-            print_record(memory, n);
-            lent
-        }
-        _ => {
-            print_position(osp::osp_reader_position(text::first(memory, n)));
-            lent
-        }
-    }
-}
-
-// o BYTES
-fn put_state(s: &[u8], memory: &mut [u8]) -> usize {
-    fill(memory);
-    put_all(s, memory);
-    let n = text::within(s.len(), memory);
-    print_record(memory, n);
-    n
+    memory.print_record();
 }
 
 // g ROOM AT CHUNK
 fn next(s: &[u8], reader: &mut [u8]) {
-    let mut out = [FILL; 48];
-    let room = text::within(text::byte_at(s, 0) as usize, &out);
+    let mut room = Room::of(byte_at(s, 0));
     let mut at = long_at(s, 1) as usize;
-    let result = osp::osp_reader_next(reader, text::from(s, 5), &mut at, &mut out[..room]);
-    print_room(result, &out);
-    print_index(at);
+    let result = osp::osp_reader_next(reader, from(s, 5), &mut at, room.lent());
+    room.print(result);
+    let _ = write!(Out, "  at {:08X}\n", at % 4294967296);
 }

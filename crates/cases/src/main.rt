@@ -5,14 +5,18 @@
 mod captures;
 mod chains;
 mod line;
+mod memory;
 mod printing;
+mod room;
 mod telegrams;
 
-use captures::{of_a_reader, run_reader};
-use chains::{of_a_chain, run_chain};
-use line::bytes_of;
+use captures::run_reader;
+use chains::run_chain;
+use line::put_bytes;
+use memory::Memory;
 use printing::print;
 use telegrams::run_case;
+use text::Page;
 
 // What a room holds before each call.
 pub(crate) const FILL: u8 = 0x5A;
@@ -20,42 +24,29 @@ pub(crate) const FILL: u8 = 0x5A;
 fn main() {
     let mut text = io::large_buffer();
     let n = io::read_full(text::IN, &mut text);
-    let mut memory = [FILL; 16384];
-    run_lines(&text[..n], &mut memory);
+    let mut bytes = [FILL; 16384];
+    run_lines(&text[..n], &mut Memory::of(&mut bytes));
 }
 
-// Runs each line; `memory` is the chain memory, of which the cases lend a part.
-fn run_lines(text: &[u8], memory: &mut [u8]) {
-    let n = text.len();
-    let mut lent = 0;
-    let mut at = 0;
-    while at < n {
-        let end = text::find(text, at, n, b'\n');
-        lent = run_line(&text[at..end], memory, lent);
-        at = end + 1;
+// Runs each line.
+fn run_lines(text: &[u8], memory: &mut Memory) {
+    for line in text.split_inclusive(|b| *b == b'\n') {
+        run_line(line.strip_suffix(b"\n").unwrap_or(line), memory);
     }
 }
 
-// Prints a line and, where it is a case, its result. Gives how much of the chain memory is lent from then on.
-fn run_line(line: &[u8], memory: &mut [u8], lent: usize) -> usize {
+// Prints a line and, where it is a case, its result (by its letter, no enum: the letter is what the file has).
+fn run_line(line: &[u8], memory: &mut Memory) {
     print(line);
     print(b"\n");
-    let operation = text::byte_at(line, 0);
-    if operation == 0 {
-        return lent;
+    let mut bytes = [0u8; 48];
+    let mut case = Page::over(&mut bytes);
+    put_bytes(&mut case, text::from(line, 1));
+    let s = case.written();
+    match text::byte_at(line, 0) {
+        0 | b'#' => {}
+        operation @ (b'k' | b'l' | b'm' | b'n' | b't' | b'w') => run_chain(operation, s, memory),
+        operation @ (b'e' | b'g' | b'o' | b'q') => run_reader(operation, s, memory),
+        operation => run_case(operation, s),
     }
-    if operation == b'#' {
-        return lent;
-    }
-    let case = bytes_of(line);
-    let s = case.bytes;
-    let k = text::within(case.used, &s);
-    if of_a_chain(operation) {
-        return run_chain(operation, &s[..k], memory, lent);
-    }
-    if of_a_reader(operation) {
-        return run_reader(operation, &s[..k], memory, lent);
-    }
-    run_case(operation, &s[..k]);
-    lent
 }

@@ -1,18 +1,19 @@
 // Cases on single telegrams: each calls a function with a room of its own.
-use crate::FILL;
 use crate::line::long_at;
-use crate::printing::{print_checksum, print_room};
+use crate::printing::Out;
+use crate::room::Room;
+use std::fmt::Write;
+use text::{byte_at, from};
 
 // Runs a case: the first byte is the length of the room; a checksum has none.
 pub(crate) fn run_case(operation: u8, s: &[u8]) {
     if operation == b's' {
-        print_checksum(osp::osp_checksum(s));
+        let _ = write!(Out, "  {:02X}\n", osp::osp_checksum(s));
         return;
     }
-    let mut out = [FILL; 48];
-    let room = text::within(text::byte_at(s, 0) as usize, &out);
-    let result = call(operation, text::from(s, 1), &mut out[..room]);
-    print_room(result, &out);
+    let mut room = Room::of(byte_at(s, 0));
+    let result = call(operation, from(s, 1), room.lent());
+    room.print(result);
 }
 
 // Calls the function that the operation names.
@@ -21,12 +22,12 @@ fn call(operation: u8, s: &[u8], out: &mut [u8]) -> u32 {
         b'r' => osp::osp_read(s, out),
         b'd' => osp::osp_dissect(s, out),
         b'a' => osp::osp_dissect_answer(s, out),
-        b'b' => osp::osp_build(long_at(s, 0), long_at(s, 4), text::from(s, 8), out),
+        b'b' => osp::osp_build(long_at(s, 0), long_at(s, 4), from(s, 8), out),
         b'c' => osp::osp_build_command(
             long_at(s, 0),
             long_at(s, 4),
             long_at(s, 8),
-            text::from(s, 12),
+            from(s, 12),
             out,
         ),
         b'p' => osp::osp_build_pwm(

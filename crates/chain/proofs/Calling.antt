@@ -1,6 +1,7 @@
 -- Calls of `deliver` on memory that holds a chain: one call, a list of calls, and how such memory comes about.
 -- Assumes nothing.
-use Rattle.chain.specs.declared.Delivered.{Delivered}
+use Rattle.std.specs.Prelude.{Result}
+use Rattle.telegram.specs.declared.Refusal.{Refusal}
 use Rattle.command.specs.Commands.{Sent, dissecting}
 use Prim.Native.Nat.{ℕ, ◌≤◌}
 use mathlib.Core.Path.{◌≡◌, refl, sym, ap, ap₂, ◌∙◌, subst}
@@ -8,7 +9,7 @@ use mathlib.Core.Bool.{Bool, true, false}
 use mathlib.Core.List.{List, [], ◌∷◌, map}
 use lib.ListN.{length, length-replicate}
 use borrow.Author.Tests.{ltb-false}
-use Rattle.telegram.specs.Numbers.{Outcome, refused_for, refused, done, counted, leaves}
+use Rattle.telegram.specs.Numbers.{Outcome, refused_for, refused, done, counted, leaves, outcome_of}
 use Rattle.telegram.proofs.Outcomes.{never, passed, went_on}
 use Rattle.telegram.proofs.Front.{front-take}
 use Rattle.rules.specs.declared.Defaults.{Defaults}
@@ -17,7 +18,7 @@ use Rattle.rules.specs.Lists.{run, Start}
 use Rattle.rules.proofs.Starting.{made-fresh, first-only}
 use Rattle.rules.proofs.Kept.{Keeps, deliver-keeps, run-keeps, made-right}
 use Rattle.chain.specs.Record.{record_length, decode, hold, chain_in}
-use Rattle.chain.specs.Memory.{Left, on_chain, delivered, held, made, lamp_read, delivered_as}
+use Rattle.chain.specs.Memory.{Left, on_chain, delivered, held, made, lamp_read}
 use Rattle.chain.specs.Calls.{Call, Returned, Delivers, Calls, last_memory, heard_as, heard, delivery_of, Started, Makes}
 use Rattle.chain.proofs.Places.{length-lamps_in}
 use Rattle.chain.proofs.Validity.{chain-in}
@@ -163,8 +164,8 @@ pub record Begun (n : ℕ) (d : Defaults) (fresh : List ℕ) (k : Call) : Type 0
   pub answer : List ℕ
   pub answers : (onto chain k).outcome ≡ done answer
 
-pub begun : (n : ℕ) (d : Defaults) (before : List ℕ) (x : Delivered) (fresh : List ℕ) → Makes before n d x fresh → delivered_as x ≡ done 0
-    → (k : Call) (r : Returned) → Delivers fresh k r → {count : ℕ} → delivered_as r.answer ≡ done count → Begun n d fresh k
+pub begun : (n : ℕ) (d : Defaults) (before : List ℕ) (x : Result ℕ Refusal) (fresh : List ℕ) → Makes before n d x fresh → outcome_of x ≡ done 0
+    → (k : Call) (r : Returned) → Delivers fresh k r → {count : ℕ} → outcome_of r.answer ≡ done count → Begun n d fresh k
 begun n d before x fresh makes made-done k r delivers accepted =
     let g = went_on (made before n d) _ (sym makes.answered ∙ made-done) in
     let c : Chain = g.0 in
@@ -207,9 +208,9 @@ started-holds n d k a mem s =
     )
 
 -- Any init that memory with a fresh chain accepts, of whatever cast, starts it: `Started` misses none.
-pub any-start-in-memory : (n : ℕ) (d : Defaults) (before : List ℕ) (x : Delivered) (fresh : List ℕ) → Makes before n d x fresh
-    → delivered_as x ≡ done 0 → (k : Call) (t : Sent) → dissecting k.telegram ≡ done t → is_init t.message.number ≡ true
-    → (r : Returned) → Delivers fresh k r → (count : ℕ) → delivered_as r.answer ≡ done count
+pub any-start-in-memory : (n : ℕ) (d : Defaults) (before : List ℕ) (x : Result ℕ Refusal) (fresh : List ℕ) → Makes before n d x fresh
+    → outcome_of x ≡ done 0 → (k : Call) (t : Sent) → dissecting k.telegram ≡ done t → is_init t.message.number ≡ true
+    → (r : Returned) → Delivers fresh k r → (count : ℕ) → outcome_of r.answer ≡ done count
     → (a : ℕ) × Started n d t.message.number a r.memory
 any-start-in-memory n d before x fresh makes made-done k t dissected init r delivers count accepted =
     let b = begun n d before x fresh makes made-done k r delivers accepted in

@@ -19,7 +19,7 @@ use Rattle.rules.proofs.Trading.{neighbours-trade}
 use Rattle.rules.proofs.Nobodys.{nobodys-change-nothing}
 use Rattle.chain.specs.Record.{record_length, hold, chain_in}
 use Rattle.chain.specs.Memory.{Left, made}
-use Rattle.chain.specs.declared.Delivered.TheVariants.{Done}
+use Rattle.std.specs.Prelude.{Ok}
 use Rattle.chain.specs.Calls.{Call, delivery_of, Started, EachAsAloneInMemory, NeighboursTradeInMemory, NobodysChangeNothingInMemory}
 use Rattle.chain.proofs.Records.{hold-hold}
 use Rattle.chain.proofs.Exits.{made-done, held-done}
@@ -172,7 +172,7 @@ start-in-memory n d k a c s =
       l.memory,
       record {
         before = before;
-        make_answer = Done 0;
+        make_answer = Ok 0;
         fresh = hold before s.made;
         makes = record { answered = t.answer; memory = t.memory };
         made = refl;
@@ -182,7 +182,7 @@ start-in-memory n d k a c s =
         kind = s.kind;
         init = s.init;
         first = s.first;
-        returned = record { memory = l.memory; room = leaves l.outcome call.room; answer = Done (length s.answer) };
+        returned = record { memory = l.memory; room = leaves l.outcome call.room; answer = Ok (length s.answer) };
         delivers = record { answer = sym (ap counted e); memory = refl; room = refl };
         count = length s.answer;
         accepted = refl;

@@ -19,7 +19,7 @@ use Rattle.rules.specs.Chain.{lamp_right, lamps_right, any_unaddressed, lamp_in}
 use Rattle.slot.specs.Slot.{slot_size, lamp_of, slot_of}
 use Rattle.chain.specs.Record.{header_size, slot_at, lamps_of, slots_of, lamps_in}
 use Rattle.chain.specs.Places.{lamp_at, place_from}
-use Rattle.chain.specs.declared.Found.TheVariants.{At, Nobody}
+use Rattle.std.specs.Prelude.{Some, None}
 use Rattle.slot.proofs.Slots.{slot-length, lamp-slot, slot-lamp}
 use Rattle.chain.proofs.Slots.{bytes_drop}
 
@@ -45,7 +45,7 @@ rest_more i n mem h =
 
 -- The lookup, from place i on: the lamp is there, behind it, or nowhere.
 module _ (i n a : ℕ) (mem : List ℕ) (h : i < n) where
-  pub place_here : (lamp_at mem i).address.0 ≡ a → place_from i a (rest i n mem) ≡ At (record { 0 = i })
+  pub place_here : (lamp_at mem i).address.0 ≡ a → place_from i a (rest i n mem) ≡ Some (record { 0 = i })
   unfolding place_from
   place_here e = rw (rest_more i n mem h, eq-eqb (lamp_at mem i).address.0 a e)
 
@@ -53,7 +53,7 @@ module _ (i n a : ℕ) (mem : List ℕ) (h : i < n) where
   unfolding place_from
   place-next e = rw (rest_more i n mem h, ne_eqb (lamp_at mem i).address.0 a e, add-one)
 
-pub place_none : (n a : ℕ) (mem : List ℕ) → place_from n a (rest n n mem) ≡ Nobody
+pub place_none : (n a : ℕ) (mem : List ℕ) → place_from n a (rest n n mem) ≡ None
 unfolding place_from
 place_none n a mem = rw rest-none
 

@@ -18,7 +18,7 @@ use Rattle.rules.specs.Chain.{with_lamps, Walked, walk, reaching, responding, an
 use Rattle.chain.specs.Record.{count_of, lamps_in, decode, hold}
 use Rattle.chain.specs.Places.{lamp_at, with_lamp, sweep, acted_in, place_from, held_after}
 use Rattle.chain.specs.Helpers.{refused_in, reached_in, cast_of}
-use Rattle.chain.specs.declared.Found.TheVariants.{At, Nobody}
+use Rattle.std.specs.Prelude.{Some, None}
 use Rattle.chain.specs.declared.Reach.{Reach}
 use Rattle.chain.specs.declared.Reach.TheVariants.{Everyone as All, Members}
 use Rattle.chain.proofs.Places.{length-lamps_in, getD-lamps_in, rest, rest_all, rest_more}
@@ -90,14 +90,14 @@ module _ (mem : List ℕ) (b : Bytes mem) (v : Valid mem (decode mem)) where
       by (Members g) = sym (ap (λ (w : Walked). w.lamps) (walk-group (decode mem).defaults m 0 (lamps_in (count_of mem) mem) g))
 
   -- Unicast: nobody has the address ..
-  pub unicast-nobody : (m : Message) (a : Address) (room : List ℕ) → place_from 0 a.0 (lamps_in (count_of mem) mem) ≡ Nobody
+  pub unicast-nobody : (m : Message) (a : Address) (room : List ℕ) → place_from 0 a.0 (lamps_in (count_of mem) mem) ≡ None
       → Walks mem room (reached_in mem m (One a)) (done 0) mem room
   unfolding reached_in decode
   unicast-nobody m a room e =
       walks-done mem room (walk-nobody (decode mem).defaults m a (lamps_in (count_of mem) mem) 0 e) refl held_same refl
 
   -- .. or the lamp at the place that was found acts and answers.
-  module _ (m : Message) (a : Address) (q : Place) (e : place_from 0 a.0 (lamps_in (count_of mem) mem) ≡ At q) where
+  module _ (m : Message) (a : Address) (q : Place) (e : place_from 0 a.0 (lamps_in (count_of mem) mem) ≡ Some q) where
     pub found_in : q.0 < count_of mem
     found_in =
         let h : q.0 < length (lamps_in (count_of mem) mem) = (walk-found (decode mem).defaults m a (lamps_in (count_of mem) mem) q e (lamp_at mem 0)).0 in

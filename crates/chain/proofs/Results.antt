@@ -8,8 +8,9 @@ use mathlib.Core.List.{List, [], ◌∷◌}
 use native.Mathlib.Omega.{arith}
 use lib.Dec.{eqb, ltb}
 use lib.ListN.{length}
+use Rattle.telegram.specs.declared.Refusal.{Refusal}
 use Rattle.telegram.specs.declared.Refusal.TheVariants.{CastNotAllowed, RoomTooSmall, OutOfRange, NoChain, InitPastEnd, NoLamp}
-use Rattle.telegram.specs.Numbers.{Outcome, refused_for, done, refuse, counted, leaves}
+use Rattle.telegram.specs.Numbers.{Outcome, refused_for, done, refuse, counted, leaves, outcome_of}
 use Rattle.telegram.proofs.Outcomes.{either, never, refused-one}
 use Rattle.telegram.proofs.Carrying.{Answerable, well, told, told-bare, refusing, passing-on, going_on}
 use Rattle.table.specs.declared.Cast.{Cast}
@@ -22,9 +23,8 @@ use Rattle.rules.specs.Chain.{Chain, Walked, walk, count_right, lamps_right, any
 use Rattle.rules.specs.Lamp.{numbered_as, with_ce}
 use Rattle.rules.proofs.Walks.{Ending, Ended, walk-ended}
 use Rattle.chain.specs.Record.{header_size, record_length, count_of, decode, chain_in}
-use Rattle.chain.specs.declared.Delivered.{Delivered}
-use Rattle.chain.specs.declared.Delivered.TheVariants.{Done, Refused}
-use Rattle.chain.specs.Memory.{delivered_as, on_chain, delivered, silent, made, sensed_in, lamp_read}
+use Rattle.std.specs.Prelude.{Result, Ok, Err}
+use Rattle.chain.specs.Memory.{on_chain, delivered, silent, made, sensed_in, lamp_read}
 use Rattle.chain.specs.Calls.{Returned, EveryListHasResults}
 
 -- What delivery itself refuses.
@@ -85,10 +85,10 @@ chain-answerable mem =
     (refusing (not (lamps_right (decode mem).lamps)) NoChain (omega arith) (well _ refl))))
 
 -- The code's answer for such an outcome.
-pub answering : (o : Outcome (List ℕ)) → Answerable o → (r : Delivered) × (delivered_as r ≡ counted o)
+pub answering : (o : Outcome (List ℕ)) → Answerable o → (r : Result ℕ Refusal) × (outcome_of r ≡ counted o)
 answering (refused_for d) (well s q) = absurd (never q)
-answering (refused_for d) (told e c q) = (Refused e, ap refused_for (sym (refused-one q)))
-answering (done s) h = (Done (length s), refl)
+answering (refused_for d) (told e c q) = (Err e, ap refused_for (sym (refused-one q)))
+answering (done s) h = (Ok (length s), refl)
 
 -- So delivery can always be answered ..
 pub delivered-answerable : (mem s : List ℕ) (room : ℕ) → Answerable (delivered mem s room).outcome
@@ -100,7 +100,7 @@ delivered-answerable mem s room =
     go (refused_for d) h = passing-on d h
     go (done c) h = delivering-answerable c.defaults c.lamps s room
 
-pub deliver-answer : (mem s : List ℕ) (room : ℕ) → (r : Delivered) × (delivered_as r ≡ counted (delivered mem s room).outcome)
+pub deliver-answer : (mem s : List ℕ) (room : ℕ) → (r : Result ℕ Refusal) × (outcome_of r ≡ counted (delivered mem s room).outcome)
 deliver-answer mem s room = answering _ (delivered-answerable mem s room)
 
 -- .. and the making of a chain.
@@ -110,13 +110,13 @@ made-answerable mem n d =
     going_on (making n d) (refusing (not (count_right n)) NoChain (omega arith) (well _ refl))
     (λ c. refusing (ltb (length mem) (record_length n)) RoomTooSmall (omega arith) (well _ refl))
 
-pub make-answer : (mem : List ℕ) (n : ℕ) (d : Defaults) → (r : Delivered) × (delivered_as r ≡ silent (made mem n d))
+pub make-answer : (mem : List ℕ) (n : ℕ) (d : Defaults) → (r : Result ℕ Refusal) × (outcome_of r ≡ silent (made mem n d))
 make-answer mem n d = go (made mem n d) (made-answerable mem n d)
   where
-    go : (o : Outcome Chain) → Answerable o → (r : Delivered) × (delivered_as r ≡ silent o)
+    go : (o : Outcome Chain) → Answerable o → (r : Result ℕ Refusal) × (outcome_of r ≡ silent o)
     go (refused_for d) (well c q) = absurd (never q)
-    go (refused_for d) (told e c q) = (Refused e, ap refused_for (sym (refused-one q)))
-    go (done c) h = (Done 0, refl)
+    go (refused_for d) (told e c q) = (Err e, ap refused_for (sym (refused-one q)))
+    go (done c) h = (Ok 0, refl)
 
 -- A sensor report, and reading a lamp out.
 lamp-answerable : (xs : List Lamp) (p : ℕ) → Answerable (lamp_in xs p)

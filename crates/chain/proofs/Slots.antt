@@ -1,6 +1,6 @@
 -- What a store makes of memory, slot by slot.
 -- Assumes nothing.
-use mathlib.Core.Path.{◌≡◌, refl, sym, ap, ◌∙◌}
+use mathlib.Core.Path.{◌≡◌, sym, ap, ◌∙◌}
 use mathlib.Core.Bool.{Bool, true, false, cond}
 use mathlib.Core.List.{List, [], ◌++◌, append_assoc, append-nil}
 use Prim.Native.Nat.{ℕ, ◌+◌, ◌≤◌}
@@ -9,9 +9,7 @@ use lib.ListN.{length, take, drop, length-drop, take-append-drop}
 use lib.Seq.{length-take-le, drop-drop, get_or-drop, take-length, drop-length}
 use Rattle.telegram.specs.Telegram.{Bytes}
 use Rattle.telegram.proofs.Front.{overwritten}
-use Rattle.rules.specs.declared.State.{State}
 use Rattle.rules.specs.declared.Lamp.{Lamp}
-use Rattle.rules.specs.Lamp.{with_state}
 use Rattle.slot.specs.Slot.{slot_size, lamp_of, slot_of}
 use Rattle.slot.proofs.Slots.{slot-length, slot-lamp, lamp-front}
 use Rattle.chain.specs.Record.{slot_at}
@@ -48,10 +46,10 @@ part-copied mem z at {k} e h =
     rw (take-length s, d, append-nil) (ap (λ (i : ℕ). take i (drop at mem)) e)
 
 -- The lamp at a place, from the bytes of its slot.
-pub slot-at : (mem : List ℕ) (p : ℕ) {bs : List ℕ} → slot_at p + slot_size ≤ length mem → bs ≡ take slot_size (drop (slot_at p) mem)
+pub lamp_in_slot : (mem : List ℕ) (p : ℕ) {bs : List ℕ} → slot_at p + slot_size ≤ length mem → bs ≡ take slot_size (drop (slot_at p) mem)
     → lamp_of bs ≡ lamp_at mem p
 unfolding lamp_at
-slot-at mem p h e = ap lamp_of e ∙ lamp-front (drop (slot_at p) mem) (simp length-drop (omega arith))
+lamp_in_slot mem p h e = ap lamp_of e ∙ lamp-front (drop (slot_at p) mem) (simp length-drop (omega arith))
 
 -- A rule for the lamps that a test picks: done where the test is true, and else the lamp stays.
 module _ (test : Lamp → Bool) (rule : Lamp → Lamp) {x l : Lamp} {b : Bool} (same : x ≡ l) (tested : b ≡ test x) where
@@ -60,8 +58,3 @@ module _ (test : Lamp → Bool) (rule : Lamp → Lamp) {x l : Lamp} {b : Bool} (
 
   pub passed-by : b ≡ false → l ≡ cond (test l) (rule l) l
   passed-by e = ap (λ (t : Bool). cond t (rule l) l) (sym e ∙ tested ∙ ap test same)
-
--- A state that a test picks.
-pub state-picked : (b : Bool) (s : State) (l : Lamp) → with_state (cond b s l.state) l ≡ cond b (with_state s l) l
-state-picked true s l = refl
-state-picked false s l = refl

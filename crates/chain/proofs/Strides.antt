@@ -20,8 +20,7 @@ use Rattle.rules.specs.declared.Lamp.{Lamp}
 use Rattle.rules.specs.Lamp.{report, acted, answered, member, numbered_as, with_ce}
 use Rattle.rules.specs.Chain.{Step, onward, ends, Walked, stepped, walk, answer_from, reaching, last_answers, initialising}
 use Rattle.chain.specs.Places.{place_from}
-use Rattle.chain.specs.declared.Found.{Found}
-use Rattle.chain.specs.declared.Found.TheVariants.{At, Nobody}
+use Rattle.std.specs.Prelude.{Option, Some, None}
 use Rattle.chain.proofs.Sweeps.{each_from}
 
 -- A telegram that always goes on does its rule to each lamp.
@@ -45,16 +44,16 @@ module _ (a : ℕ) (rule : Lamp → Lamp) (tell : Lamp → Outcome (List ℕ)) w
   abbrev stopping : ℕ → Lamp → Step
   stopping q l = cond (eqb l.address.0 a) (ends (rule l) (tell l)) (onward l)
 
-  abbrev Stops : ℕ → List Lamp → Walked → Found → Type 0
-  Stops p xs w Nobody = w ≡ record { lamps = xs; outcome = done [] }
-  Stops p xs w (At q) =
+  abbrev Stops : ℕ → List Lamp → Walked → Option Place → Type 0
+  Stops p xs w None = w ≡ record { lamps = xs; outcome = done [] }
+  Stops p xs w (Some q) =
       (k : ℕ) × (q.0 ≡ p + k) × (k < length xs)
       × ((y : Lamp) → w ≡ record { lamps = set xs k (rule (get_or xs k y)); outcome = tell (get_or xs k y) })
 
-  behind : (p : ℕ) (x : Lamp) (xs : List Lamp) (w : Walked) (f : Found) → Stops (suc p) xs w f
+  behind : (p : ℕ) (x : Lamp) (xs : List Lamp) (w : Walked) (f : Option Place) → Stops (suc p) xs w f
       → Stops p (x ∷ xs) (stepped (onward x) xs w) f
-  behind p x xs w Nobody e = ap (stepped (onward x) xs) e
-  behind p x xs w (At q) r =
+  behind p x xs w None e = ap (stepped (onward x) xs) e
+  behind p x xs w (Some q) r =
       let e : q.0 ≡ suc p + r.0 = r.1 in
       let h : r.0 < length xs = r.2 in
       (suc r.0, omega arith, omega arith, λ y. ap (stepped (onward x) xs) (r.3 y))
@@ -66,7 +65,7 @@ module _ (a : ℕ) (rule : Lamp → Lamp) (tell : Lamp → Outcome (List ℕ)) w
     where
       go : (b : Bool) → Stops (suc p) xs (walk stopping (suc p) xs) (place_from (suc p) a xs)
           → Stops p (x ∷ xs) (stepped (cond b (ends (rule x) (tell x)) (onward x)) xs (walk stopping (suc p) xs))
-          (cond b (At (record { 0 = p })) (place_from (suc p) a xs))
+          (cond b (Some (record { 0 = p })) (place_from (suc p) a xs))
       go true r = (0, omega arith, omega arith, λ y. refl)
       go false r = behind p x xs (walk stopping (suc p) xs) (place_from (suc p) a xs) r
 
@@ -75,10 +74,10 @@ module _ (d : Defaults) (m : Message) (a : Address) (xs : List Lamp) where
   abbrev answers : Lamp → Outcome (List ℕ)
   answers l = done (answer_from a.0 m.number (answered d m l))
 
-  pub walk-nobody : (p : ℕ) → place_from p a.0 xs ≡ Nobody → walk (reaching d m (One a)) p xs ≡ record { lamps = xs; outcome = done [] }
+  pub walk-nobody : (p : ℕ) → place_from p a.0 xs ≡ None → walk (reaching d m (One a)) p xs ≡ record { lamps = xs; outcome = done [] }
   walk-nobody p e = rw e at (stops a.0 (acted d m) answers p xs)
 
-  pub walk-found : (q : Place) → place_from 0 a.0 xs ≡ At q → (y : Lamp)
+  pub walk-found : (q : Place) → place_from 0 a.0 xs ≡ Some q → (y : Lamp)
       → (q.0 < length xs)
       × (walk (reaching d m (One a)) 0 xs
       ≡ record {

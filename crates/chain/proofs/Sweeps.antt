@@ -140,3 +140,11 @@ install-set mem p n x b h k =
     ∙ sym (install-part mem (lamps_in p mem ++ (x ∷ [])) (p + 1) n b h (omega arith) (simp (length-append, e)))
     ∙ ap (install mem) (append_assoc (lamps_in p mem) (x ∷ []) (rest (p + 1) n mem)
     ∙ sym (rw (lamps-at p n mem k) (set_at (lamps_in p mem) (lamp_at mem p) (rest (p + 1) n mem) x p e)))
+
+-- Rules that do the same at each place sweep alike.
+pub sweep-alike : (rule same : ℕ → Lamp → Lamp) → ((p : ℕ) (l : Lamp) → rule p l ≡ same p l) → (p n : ℕ) (mem : List ℕ)
+    → sweep rule p n mem ≡ sweep same p n mem
+unfolding sweep
+sweep-alike rule same e p zero mem = refl
+sweep-alike rule same e p (suc n) mem =
+    rw (e p (lamp_at mem p)) (sweep-alike rule same e (suc p) n (with_lamp mem p (same p (lamp_at mem p))))

@@ -1,15 +1,15 @@
 -- Demand 3 over the program's own contracts: lists of calls of `deliver` on real memory, refused ones included.
 -- Assumes nothing.
-use Rattle.std.specs.Prelude.{ℕ, ◌+◌, ◌<◌, ◌≡◌, ◌≢◌, true, List, [], ◌∷◌, ◌++◌, map, length, take}
-use Rattle.telegram.specs.Numbers.{Outcome, refused_for, done, counted, leaves}
+use Rattle.std.specs.Prelude.{ℕ, ◌+◌, ◌<◌, ◌≡◌, ◌≢◌, true, Result, List, [], ◌∷◌, ◌++◌, map, length, take}
+use Rattle.telegram.specs.Numbers.{Outcome, refused_for, done, counted, leaves, outcome_of}
+use Rattle.telegram.specs.declared.Refusal.{Refusal}
 use Rattle.table.specs.declared.Cast.TheVariants.{One}
 use Rattle.command.specs.Commands.{Sent, dissecting}
 use Rattle.rules.specs.declared.Defaults.{Defaults}
 use Rattle.rules.specs.declared.Lamp.{Lamp}
 use Rattle.rules.specs.Chain.{is_init}
 use Rattle.rules.specs.Lists.{Delivery, AllListed, Listed, own_marks, keep, ForOne, Nobodys, unanswered}
-use Rattle.chain.specs.declared.Delivered.{Delivered}
-use Rattle.chain.specs.Memory.{delivered_as, delivered, held, silent, made, lamp_read}
+use Rattle.chain.specs.Memory.{delivered, held, silent, made, lamp_read}
 
 -- One call of `deliver`: the telegram's bytes, and what the lent room holds before.
 pub record Call : Type 0 where
@@ -20,17 +20,17 @@ pub record Call : Type 0 where
 pub record Returned : Type 0 where
   pub memory : List ℕ
   pub room : List ℕ
-  pub answer : Delivered
+  pub answer : Result ℕ Refusal
 
 -- The contract of `deliver`, its three equations.
 pub record Delivers (mem : List ℕ) (k : Call) (r : Returned) : Type 0 where
-  pub answer : delivered_as r.answer ≡ counted (delivered mem k.telegram (length k.room)).outcome
+  pub answer : outcome_of r.answer ≡ counted (delivered mem k.telegram (length k.room)).outcome
   pub memory : r.memory ≡ (delivered mem k.telegram (length k.room)).memory
   pub room : r.room ≡ leaves (delivered mem k.telegram (length k.room)).outcome k.room
 
 -- The contract of `make`, its two equations, on memory that becomes mem.
-pub record Makes (before : List ℕ) (n : ℕ) (d : Defaults) (answer : Delivered) (mem : List ℕ) : Type 0 where
-  pub answered : delivered_as answer ≡ silent (made before n d)
+pub record Makes (before : List ℕ) (n : ℕ) (d : Defaults) (answer : Result ℕ Refusal) (mem : List ℕ) : Type 0 where
+  pub answered : outcome_of answer ≡ silent (made before n d)
   pub memory : mem ≡ held before (made before n d)
 
 -- A list of calls. Every delivery gets the record as the one before left it, done or refused; nothing else writes it meanwhile.
@@ -52,7 +52,7 @@ heard_as (done count) room = done (take count room)
 
 -- .. of what a call left and gave back.
 abbrev pub heard : Returned → Outcome (List ℕ)
-heard r = heard_as (delivered_as r.answer) r.room
+heard r = heard_as (outcome_of r.answer) r.room
 
 -- A call as a delivery of the rules: its bytes and the length of its room.
 abbrev pub delivery_of : Call → Delivery
@@ -62,10 +62,10 @@ delivery_of k = record { telegram = k.telegram; room = length k.room }
 -- `deliver` with an init from a that was done.
 pub record Started (n : ℕ) (d : Defaults) (k a : ℕ) (mem : List ℕ) : Type 0 where
   pub before : List ℕ
-  pub make_answer : Delivered
+  pub make_answer : Result ℕ Refusal
   pub fresh : List ℕ
   pub makes : Makes before n d make_answer fresh
-  pub made : delivered_as make_answer ≡ done 0
+  pub made : outcome_of make_answer ≡ done 0
   pub call : Call
   pub sent : Sent
   pub dissected : dissecting call.telegram ≡ done sent
@@ -75,7 +75,7 @@ pub record Started (n : ℕ) (d : Defaults) (k a : ℕ) (mem : List ℕ) : Type 
   pub returned : Returned
   pub delivers : Delivers fresh call returned
   pub count : ℕ
-  pub accepted : delivered_as returned.answer ≡ done count
+  pub accepted : outcome_of returned.answer ≡ done count
   pub left : returned.memory ≡ mem
 
 -- The lamp at place p of the memory `many` reads out as the lone lamp of the memory `one`, every field; and what was heard of each of

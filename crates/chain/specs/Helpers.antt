@@ -1,15 +1,14 @@
 -- How the code splits delivery: what the contracts of its helpers cite. No public contract cites these.
 -- Assumes nothing.
-use Rattle.std.specs.Prelude.{ℕ, List, [], length}
+use Rattle.std.specs.Prelude.{ℕ, Result, Ok, Err, List, [], length}
 use Rattle.telegram.specs.Numbers.{Reason, Outcome, refused_for, done, reason_of}
+use Rattle.telegram.specs.declared.Refusal.{Refusal}
 use Rattle.table.specs.declared.Cast.{Cast}
 use Rattle.table.specs.declared.Cast.TheVariants.{Everyone, Group}
 use Rattle.command.specs.Fields.{layout_of, fields_by}
 use Rattle.command.specs.Commands.{Message, Sent, numbered, dissecting}
 use Rattle.rules.specs.Chain.{Walked, walk, reaching, visiting, responding}
 use Rattle.chain.specs.Record.{decode}
-use Rattle.chain.specs.declared.Permit.{Permit}
-use Rattle.chain.specs.declared.Permit.TheVariants.{Granted, Refused}
 use Rattle.chain.specs.declared.Reach.{Reach}
 use Rattle.chain.specs.declared.Reach.TheVariants.{Everyone as ReachEveryone, Members}
 
@@ -26,9 +25,9 @@ unfoldable pub delivered_in : List ℕ → List ℕ → Walked
 delivered_in mem s = responding (decode mem).defaults (decode mem).lamps (dissecting s)
 
 -- Whether a telegram may be done: its refusal, or done with it.
-abbrev pub permit_as : Permit → Sent → Outcome Sent
-permit_as Granted t = done t
-permit_as (Refused e) t = refused_for (reason_of e)
+abbrev pub permit_as : Result Unit Refusal → Sent → Outcome Sent
+permit_as (Ok u) t = done t
+permit_as (Err e) t = refused_for (reason_of e)
 
 -- An init of a kind, 02 or 03, for a cast.
 abbrev pub init_of : ℕ → Cast → Sent

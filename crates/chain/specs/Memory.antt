@@ -1,25 +1,11 @@
 -- What each call on a chain gives back and leaves in lent memory. Document 01, "Numbers given back", on the chain's calls.
 -- Assumes nothing.
 use Rattle.std.specs.Prelude.{ℕ, List, ltb, length}
-use Rattle.telegram.specs.Numbers.{Outcome, refused_for, done, refuse, after, reason_of}
+use Rattle.telegram.specs.Numbers.{Outcome, refused_for, done, refuse, after}
 use Rattle.rules.specs.declared.Defaults.{Defaults}
 use Rattle.rules.specs.declared.Lamp.{Lamp}
 use Rattle.rules.specs.Chain.{Chain, Moved, room_small, deliver, making, sensing, lamp_in}
 use Rattle.chain.specs.Record.{record_length, hold, chain_in}
-use Rattle.chain.specs.declared.Delivered.{Delivered}
-use Rattle.chain.specs.declared.Delivered.TheVariants.{Done, Refused}
-use Rattle.chain.specs.declared.LampRead.{LampRead}
-use Rattle.chain.specs.declared.LampRead.TheVariants.{Read, Unread}
-
--- What a call on a chain answers: its refusal, or done with how many bytes its answer has.
-abbrev pub delivered_as : Delivered → Outcome ℕ
-delivered_as (Done n) = done n
-delivered_as (Refused e) = refused_for (reason_of e)
-
--- What reading a lamp out answers: its refusal, or done with the lamp.
-abbrev pub lamp_read_as : LampRead → Outcome Lamp
-lamp_read_as (Read l) = done l
-lamp_read_as (Unread e) = refused_for (reason_of e)
 
 -- What a call leaves: the record's memory, and the outcome, done with the bytes of the answer.
 pub record Left : Type 0 where

@@ -1,21 +1,20 @@
 -- The lamps of a record, place by place, as the code reads and writes them.
 -- Assumes nothing.
-use Rattle.std.specs.Prelude.{ℕ, zero, suc, ◌+◌, Bool, true, cond, List, [], ◌∷◌, ◌++◌, eqb, ltb, get_or, take, drop}
+use Rattle.std.specs.Prelude.{ℕ, zero, suc, ◌+◌, Bool, true, cond, Option, Some, None, List, [], ◌∷◌, ◌++◌, eqb, ltb, get_or, take, drop}
 use Rattle.command.specs.Fields.{word_at}
 use Rattle.command.specs.Commands.{Message}
 use Rattle.rules.specs.declared.Defaults.{Defaults}
+use Rattle.rules.specs.declared.Place.{Place}
 use Rattle.rules.specs.declared.State.{State}
 use Rattle.rules.specs.declared.Thresholds.{Thresholds}
 use Rattle.rules.specs.declared.Words.{Words}
 use Rattle.rules.specs.declared.Lamp.{Lamp}
-use Rattle.rules.specs.Lamp.{with_state, obeys, acted, member}
+use Rattle.rules.specs.Lamp.{with_state, with_pwm, obeys, acted, member}
 use Rattle.rules.specs.Chain.{Walked, with_lamps}
 use Rattle.slot.specs.Slot.{slot_size, lamp_of, slot_of}
 use Rattle.chain.specs.Record.{slot_at, decode, hold}
 use Rattle.chain.specs.declared.Reach.{Reach}
 use Rattle.chain.specs.declared.Reach.TheVariants.{Everyone, Members}
-use Rattle.chain.specs.declared.Found.{Found}
-use Rattle.chain.specs.declared.Found.TheVariants.{At, Nobody}
 
 -- The three PWM words from an index on.
 abbrev pub words_at : List ℕ → ℕ → Words
@@ -56,10 +55,14 @@ acted_in reach d m l = cond (reached reach l) (acted d m l) l
 abbrev pub gone : State → Lamp → Lamp
 gone s l = cond (obeys 0x04 l.state) (with_state s l) l
 
+-- A lamp after SETPWM with three words, which UNINITIALIZED does not obey.
+abbrev pub lit : Words → Lamp → Lamp
+lit w l = cond (obeys 0x4F l.state) (with_pwm w l) l
+
 -- The lookup: the place of the first lamp with an address, from place p on.
-unfoldable pub place_from : ℕ → ℕ → List Lamp → Found
-place_from p a [] = Nobody
-place_from p a (x ∷ xs) = cond (eqb x.address.0 a) (At (record { 0 = p })) (place_from (suc p) a xs)
+unfoldable pub place_from : ℕ → ℕ → List Lamp → Option Place
+place_from p a [] = None
+place_from p a (x ∷ xs) = cond (eqb x.address.0 a) (Some (record { 0 = p })) (place_from (suc p) a xs)
 
 -- Memory after a telegram walked along the lamps that it holds.
 unfoldable pub held_after : List ℕ → Walked → List ℕ

@@ -1,5 +1,5 @@
 // The lamps of the record, one after the other: the lookup, and what is done at each place without a command.
-ghost use Rattle.std.specs.Prelude.{◌≡◌, cond, ℕ, ◌+◌, ◌≤◌, length};
+ghost use Rattle.std.specs.Prelude.{◌≡◌, cond, ℕ, ◌+◌, ◌≤◌, ◌<◌, length};
 ghost use Rattle.rules.specs.declared.Lamp.{Lamp as LampType};
 ghost use Rattle.rules.specs.Lamp.{sensed, with_ce};
 ghost use Rattle.rules.specs.Chain.{any_unaddressed};
@@ -7,39 +7,44 @@ ghost use Rattle.slot.specs.Slot.{slot_size};
 ghost use Rattle.chain.specs.Record.{slot_at, lamps_in};
 ghost use Rattle.chain.specs.Places.{lamp_at, with_lamp, sweep, place_from};
 
-use crate::Found;
 use crate::record::{has_address, load_address, load_lamp, store_lamp};
 use rules::{Lamp, Place};
 use telegram::Address;
 
 // The lookup: the first lamp with an address.
-pub(crate) fn find(mem: &[u8], count: usize, a: Address) -> Found
+pub(crate) fn find(mem: &[u8], count: usize, a: Address) -> Option<Place>
     requires { slot_at count ≤ length mem.now }
     ensures { result ≡ place_from 0 a.0 (lamps_in count mem.now) }
 {
-    let mut i: usize = 0;
-    while i < count {
+    for i in 0..count {
         if has_address(mem, Place(i), a) {
-            return Found::At(Place(i));
+            return Some(Place(i));
         }
-        i += 1;
     }
-    Found::Nobody
+    None
 }
 
-// Whether any lamp has no address.
+// Whether any lamp has no address. No lamp ends the loop, so that it has no branch.
 pub(crate) fn any_unaddressed(mem: &[u8], count: usize) -> bool
     requires { slot_at count ≤ length mem.now }
     ensures { result ≡ any_unaddressed (lamps_in count mem.now) }
 {
     let mut any = false;
-    let mut i: usize = 0;
-    while i < count {
-        let a = load_address(mem, Place(i));
-        any = bits::or(any, a.0 == 0x3FF);
-        i += 1;
+    for i in 0..count {
+        any |= load_address(mem, Place(i)).0 == 0x3FF;
     }
     any
+}
+
+// Does something at each place, one after the other. What it does to the lamp at each place, the sweep does to all.
+pub(crate) fn sweep<F: Fn(&mut [u8], Place)>(mem: &mut [u8], count: usize, each: F)
+    requires room { slot_at count ≤ length mem.old }
+    requires calls { (m : _) (p : _) → p.0 < count → slot_at p.0 + slot_size ≤ length m.now → F.pre each m p }
+    ensures { (rule : ℕ → LampType → LampType) → ((m : _) (p : _) (m' : _) → p.0 < count → F.post each m p tt m' → m'.now ≡ with_lamp m.now p.0 (rule p.0 (lamp_at m.now p.0))) → mem.new ≡ sweep rule 0 count mem.old }
+{
+    for i in 0..count {
+        each(mem, Place(i));
+    }
 }
 
 // Stores a lamp at each place.
@@ -47,11 +52,7 @@ pub(crate) fn fill(mem: &mut [u8], count: usize, l: Lamp)
     requires { slot_at count ≤ length mem.old }
     ensures { mem.new ≡ sweep (λ (p : ℕ) (x : LampType). l) 0 count mem.old }
 {
-    let mut i: usize = 0;
-    while i < count {
-        store_lamp(mem, Place(i), l);
-        i += 1;
-    }
+    sweep(mem, count, |m, p| store_lamp(m, p, l));
 }
 
 // Sets CE at a place, or leaves the lamp.
@@ -60,10 +61,9 @@ pub(crate) fn mark_one(mem: &mut [u8], p: Place, on: bool)
     ensures { mem.new ≡ with_lamp mem.old p.0 (cond on (with_ce (lamp_at mem.old p.0)) (lamp_at mem.old p.0)) }
 {
     if on {
-        let mut l = load_lamp(mem, p);
-        let flags = l.flags;
-        l.flags = lamp::marked_flags(flags);
-        store_lamp(mem, p, l);
+        let l = load_lamp(mem, p);
+        let flags = lamp::marked_flags(l.flags);
+        store_lamp(mem, p, Lamp { flags, ..l });
     }
 }
 
@@ -72,11 +72,7 @@ pub(crate) fn mark_lamps(mem: &mut [u8], count: usize, on: bool)
     requires { slot_at count ≤ length mem.old }
     ensures { mem.new ≡ sweep (λ (p : ℕ) (l : LampType). cond on (with_ce l) l) 0 count mem.old }
 {
-    let mut i: usize = 0;
-    while i < count {
-        mark_one(mem, Place(i), on);
-        i += 1;
-    }
+    sweep(mem, count, |m, p| mark_one(m, p, on));
 }
 
 // Stores a temperature and flags at a place.

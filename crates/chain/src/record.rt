@@ -1,8 +1,9 @@
-// The record in lent bytes (docs/RECORD.md): its header, the slot of each place, and whether it holds a valid chain.
+// The record in lent bytes (docs/RECORD.md): its header, the slot of each place, and whether it holds a valid chain. That memory has a place
+// is asked of each function, here and in the files beside it, and no fact of a struct: behind a `&mut` each method would ask it again.
 ghost use Rattle.std.specs.Prelude.{◌≡◌, cond, ◌++◌, ◌+◌, ◌^◌, ◌≤◌, ◌<◌, eqb, length, take, drop};
 ghost use Rattle.telegram.specs.Numbers.{refused, done};
 ghost use Rattle.rules.specs.Chain.{lamp_right, lamps_right};
-ghost use Rattle.slot.specs.Slot.{slot_size};
+ghost use Rattle.slot.specs.Slot.{slot_size, lamp_of};
 ghost use Rattle.chain.specs.Record.{slot_at, header_of, header_size, count_of, defaults_of, lamps_in, decode, chain_in};
 ghost use Rattle.chain.specs.Places.{lamp_at, with_lamp};
 
@@ -21,10 +22,11 @@ pub(crate) fn slot_at(p: Place) -> usize
     HEADER + slot::SIZE * p.0
 }
 
-// The slot of a place.
+// The slot of a place: the bytes of the lamp there.
+#[tactic(auto, using(crate::proofs::Slots::lamp_in_slot))]
 fn slot_bytes(mem: &[u8], p: Place) -> [u8; slot::SIZE]
     requires { slot_at p.0 + slot_size ≤ length mem.now }
-    ensures { result ≡ take slot_size (drop (slot_at p.0) mem.now) }
+    ensures { lamp_of result ≡ lamp_at mem.now p.0 }
 {
     let at = slot_at(p);
     let end = at + slot::SIZE;
@@ -57,7 +59,7 @@ pub(crate) fn has_address(mem: &[u8], p: Place, a: Address) -> bool
     slot::has_address(slot_bytes(mem, p), a)
 }
 
-// Copies `src` into the record, from the index `at` on.
+// Copies `src` into the record, from the index `at` on. (`telegram` has the same for itself: a public one could have no `requires`.)
 fn put_bytes(mem: &mut [u8], at: usize, src: &[u8])
     requires { at + length src.now ≤ length mem.old }
     ensures { mem.new ≡ (take at mem.old ++ src.now) ++ drop (at + length src.now) mem.old }
@@ -79,9 +81,7 @@ pub(crate) fn count_of(mem: &[u8]) -> usize
     requires { header_size ≤ length mem.now }
     ensures { result ≡ count_of mem.now }
 {
-    let high = mem[0];
-    let low = mem[1];
-    bits::word(high, low) as usize
+    bits::word(mem[0], mem[1]) as usize
 }
 
 // The defaults in a header.
@@ -120,16 +120,14 @@ fn lamp_right(mem: &[u8], p: Place) -> bool
     slot::is_right(slot_bytes(mem, p))
 }
 
-// Whether each lamp is valid.
+// Whether each lamp is valid. No lamp ends the loop, so that it has no branch.
 fn lamps_right(mem: &[u8], count: usize) -> bool
     requires { slot_at count ≤ length mem.now }
     ensures { result ≡ lamps_right (lamps_in count mem.now) }
 {
     let mut right = true;
-    let mut i: usize = 0;
-    while i < count {
-        right = bits::and(right, lamp_right(mem, Place(i)));
-        i += 1;
+    for i in 0..count {
+        right &= lamp_right(mem, Place(i));
     }
     right
 }

@@ -19,10 +19,8 @@ fn remainder_byte(r: u8, b: u8) -> u8
     ensures { result ≡ remainder_byte r b }
 {
     let mut x = r ^ b;
-    let mut k: usize = 0;
-    while k < 8 {
+    for _ in 0..8u8 {
         x = shift_bit(x);
-        k += 1;
     }
     x
 }
@@ -31,11 +29,5 @@ fn remainder_byte(r: u8, b: u8) -> u8
 pub fn checksum(s: &[u8]) -> u8
     ensures { result ≡ checksum_of s.now }
 {
-    let mut r: u8 = 0;
-    let mut i = 0;
-    while i < s.len() {
-        r = remainder_byte(r, s[i]);
-        i += 1;
-    }
-    r
+    s.iter().fold(0, |r, b| remainder_byte(r, *b))
 }

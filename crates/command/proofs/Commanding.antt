@@ -25,15 +25,6 @@ pub record Fit (m : Message) (cast : Cast) : Type 0 where
   pub lists : lists_cast (row_of m.number) cast ≡ true
 
 module _ (m : Message) (cast : Cast) (room : ℕ) where
-  pub command-range : cast_in_range cast ≡ false → building_command m cast room ≡ refused 10
-  unfolding building_command
-  command-range h = simp h
-
-  pub command-duty : cast_in_range cast ≡ true → duties_in_range (layout_of m.number) m.fields ≡ false
-      → building_command m cast room ≡ refused 10
-  unfolding building_command
-  command-duty h₁ h = simp (h₁, h)
-
   pub command-cast : cast_in_range cast ≡ true → duties_in_range (layout_of m.number) m.fields ≡ true
       → lists_cast (row_of m.number) cast ≡ false → building_command m cast room ≡ refused 7
   unfolding building_command

@@ -1,6 +1,6 @@
 -- Fields and payload bytes, there and back, for every layout.
 -- Assumes nothing.
-use mathlib.Core.Path.{◌≡◌, ◌∙◌, refl, sym, ap, ap₂, subst}
+use mathlib.Core.Path.{◌≡◌, ◌∙◌, refl, ap, ap₂, subst}
 use mathlib.Core.Bool.{Bool, true, not, ◌||◌}
 use mathlib.Core.List.{List, [], ◌∷◌, ◌++◌}
 use Prim.Native.Nat.{ℕ, zero, suc, ◌+◌, ◌*◌, ◌/◌, ◌%◌, ◌≤◌, ◌<◌}
@@ -11,9 +11,7 @@ use borrow.Author.Tests.{le-leb}
 use Rattle.checksum.proofs.Below.{below, at}
 use Rattle.telegram.specs.Telegram.{Bytes}
 use Rattle.table.specs.Table.{row_of, acknowledged, plain_number, size_right}
-use Rattle.command.specs.Fields.{Layout, octets, word, long, pwm, word_at, word_bytes, pwm_bytes, fields_by, payload_by, duties_in_range, mode_of, pwm_fields, layout_of}
-use Rattle.command.specs.Commands.{numbered}
-use Rattle.command.specs.declared.Pwm.{Pwm}
+use Rattle.command.specs.Fields.{Layout, octets, word, long, pwm, word_at, word_bytes, pwm_bytes, fields_by, payload_by, duties_in_range, layout_of}
 
 -- k elements of a list from an index on
 abbrev pub elements : ℕ → List ℕ → ℕ → List ℕ
@@ -112,16 +110,3 @@ duties-back pwm p = simp (duty-le (word_at p 0), duty-le (word_at p 2), duty-le 
   where
     duty-le : (w : ℕ) → leb (w % 32768) 32767 ≡ true
     duty-le w = le-leb (w % 32768) 32767 (omega arith)
-
--- A message of number k and fields f, where the number is k and its payload holds f.
-pub keyed : {n k : ℕ} (layout : ℕ → Layout) (p f : List ℕ) → n ≡ k → f ≡ fields_by (layout k) p
-    → numbered k f ≡ numbered n (fields_by (layout n) p)
-keyed {n} {k} layout p f e h = ap (numbered k) h ∙ ap (λ (m : ℕ). numbered m (fields_by (layout m) p)) (sym e)
-
--- The six fields of three PWM words.
-pub pwm-six : (p : List ℕ) (r g b : Pwm)
-    → (mode_of r ≡ word_at p 0 / 32768) × (r.duty ≡ word_at p 0 % 32768)
-    → (mode_of g ≡ word_at p 2 / 32768) × (g.duty ≡ word_at p 2 % 32768)
-    → (mode_of b ≡ word_at p 4 / 32768) × (b.duty ≡ word_at p 4 % 32768)
-    → pwm_fields r g b ≡ fields_by pwm p
-pwm-six p r g b hr hg hb = rw (hr.0, hr.1, hg.0, hg.1, hb.0, hb.1)

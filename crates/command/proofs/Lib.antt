@@ -3,6 +3,7 @@ pub mod LaidOut
 pub mod Naming
 pub mod Commanding
 pub mod Sound
+pub mod Built
 pub mod RoundTrip
 pub mod Exact
 pub mod Carrying

@@ -2,8 +2,9 @@
 -- Callers cite these and do not unfold `naming` and `dissecting`.
 -- Assumes nothing.
 use mathlib.Core.Path.{◌≡◌, sym, ap, ◌∙◌, subst}
-use mathlib.Core.Bool.{true, false, not}
+use mathlib.Core.Bool.{true, not}
 use mathlib.Core.List.{List}
+use Rattle.std.specs.Prelude.{Ok}
 use Prim.Native.Nat.{ℕ, ◌+◌, ◌-◌, ◌≤◌}
 use native.Mathlib.Nat.{add-sub_cancel_left}
 use lib.ListN.{length, take, drop}
@@ -18,33 +19,14 @@ use Rattle.table.specs.declared.Row.{Row}
 use Rattle.table.specs.declared.Cast.{Cast}
 use Rattle.command.specs.Fields.{layout_of, fields_by}
 use Rattle.command.specs.Commands.{Message, numbered, Sent, composing, heading_as, fitting, naming, dissecting}
-use Rattle.command.specs.declared.Heading.TheVariants.{To}
 use Rattle.table.proofs.Table.{part_right}
 
-module _ (s : List ℕ) (t : Telegram) where
-  pub name-unknown : {n : ℕ} → row_of t.command ≡ refused n → refused n ≡ naming s t
-  unfolding naming
-  name-unknown e = simp e
-
-  module _ (r : Row) (e : row_of t.command ≡ done r) where
-    pub name-nobody : {n : ℕ} → destination t.address.0 ≡ refused n → refused n ≡ naming s t
-    unfolding naming
-    name-nobody d = simp (e, d)
-
-    module _ (k : Cast) (d : destination t.address.0 ≡ done k) where
-      pub name-cast : cast_listed r.casts k ≡ false → refused 7 ≡ naming s t
-      unfolding naming
-      name-cast l = simp (e, d, l)
-
-      pub name-size : cast_listed r.casts k ≡ true → payload_fits r t.size ≡ false → refused 8 ≡ naming s t
-      unfolding naming
-      name-size l f = simp (e, d, l, f)
-
-      pub name_done : cast_listed r.casts k ≡ true → payload_fits r t.size ≡ true
-          → (m : Message) → m ≡ numbered t.command (fields_by (layout_of t.command) (payload_in s t.size))
-          → done (record { message = m; cast = k }) ≡ naming s t
-      unfolding naming
-      name_done l f m h = simp (e, d, l, f, h)
+pub name_done : (s : List ℕ) (t : Telegram) (r : Row) → row_of t.command ≡ done r → (k : Cast) → destination t.address.0 ≡ done k
+    → cast_listed r.casts k ≡ true → payload_fits r t.size ≡ true
+    → (m : Message) → m ≡ numbered t.command (fields_by (layout_of t.command) (payload_in s t.size))
+    → done (record { message = m; cast = k }) ≡ naming s t
+unfolding naming
+name_done s t r e k d l f m h = simp (e, d, l, f, h)
 
 -- What an accepted telegram has behind the reader: a row and a destination that fit it, and the message in its bytes.
 pub record Named (s : List ℕ) (t : Telegram) (m : Sent) : Type 0 where
@@ -76,7 +58,7 @@ named s t m e =
     }
 
 -- The part of a telegram's bytes that is the payload of what its heading names.
-module _ (s : List ℕ) (t : Telegram) (cast : Cast) (e : heading_as s t (To cast) ≡ naming s t) (h : 3 + t.size ≤ length s) where
+module _ (s : List ℕ) (t : Telegram) (cast : Cast) (e : heading_as s t (Ok cast) ≡ naming s t) (h : 3 + t.size ≤ length s) where
   pub headed-size : size_right t.command (length (take (3 + t.size - 3) (drop 3 s))) ≡ true
   headed-size =
       let n = named s t _ (sym e) in
@@ -103,16 +85,6 @@ module _ (s : List ℕ) where
   unfolding dissecting
   dissected e = went_on (reading s) (naming s) e
 
-module _ (n : ℕ) (p : List ℕ) where
-  pub compose-unknown : {k : ℕ} → row_of n ≡ refused k → refused k ≡ composing n p
-  unfolding composing
-  compose-unknown e = simp e
-
-  module _ (r : Row) (e : row_of n ≡ done r) where
-    pub compose-size : payload_fits r (length p) ≡ false → refused 8 ≡ composing n p
-    unfolding composing
-    compose-size f = simp (e, f)
-
-    pub compose-done : payload_fits r (length p) ≡ true → done (numbered n (fields_by (layout_of n) p)) ≡ composing n p
-    unfolding composing
-    compose-done f = simp (e, f)
+pub compose-unknown : (n : ℕ) (p : List ℕ) {k : ℕ} → row_of n ≡ refused k → refused k ≡ composing n p
+unfolding composing
+compose-unknown n p e = simp e

@@ -1,9 +1,11 @@
 -- Document 01, "Commands": what the command dissector gives and what the command builder makes. Document 02, request 02: acknowledged
 -- commands.
 -- Assumes nothing.
-use Rattle.std.specs.Prelude.{ℕ, ◌-◌, not, List, [], ◌∷◌, ◌++◌, length, replicate}
+use Rattle.std.specs.Prelude.{ℕ, ◌-◌, not, Result, Ok, Err, List, [], ◌∷◌, ◌++◌, length, replicate}
 use Rattle.telegram.specs.Numbers.{Outcome, refused_for, done, refuse, after, fitted, reason_of}
 use Rattle.telegram.specs.Telegram.{reading, payload_in, telegram_of}
+use Rattle.telegram.specs.declared.Address.{Address}
+use Rattle.telegram.specs.declared.Refusal.{Refusal}
 use Rattle.telegram.specs.declared.Telegram.{Telegram}
 use Rattle.table.specs.Casts.{destination, address_of, cast_in_range}
 use Rattle.table.specs.Table.{row_of, cast_listed, payload_fits, lists_cast}
@@ -13,13 +15,7 @@ use Rattle.command.specs.Fields.{Layout, layout_of, fields_by, payload_by, dutie
 use Rattle.command.specs.declared.Command.{Command}
 use Rattle.command.specs.declared.Command.TheVariants.{Reset, ClearError, InitBidir, InitLoop, GoSleep, GoActive, GoDeepSleep, Identify, ReadMult, SetMult, ReadStatus, ReadTempStatus, ReadTemp, ReadThresholds, SetThresholds, ReadSetup, SetSetup, ReadPwm, SetPwm, GoSleepSr, GoActiveSr, GoDeepSleepSr, SetMultSr, SetThresholdsSr, SetSetupSr, SetPwmSr}
 use Rattle.command.specs.declared.Parts.{Parts}
-use Rattle.command.specs.declared.Composed.{Composed}
-use Rattle.command.specs.declared.Composed.TheVariants.{Accepted as Command-accepted, Refused as Command-refused}
 use Rattle.command.specs.declared.Dissected.{Dissected}
-use Rattle.command.specs.declared.Heading.{Heading}
-use Rattle.command.specs.declared.Heading.TheVariants.{To, Refused as Heading-refused}
-use Rattle.command.specs.declared.Dissection.{Dissection}
-use Rattle.command.specs.declared.Dissection.TheVariants.{Accepted, Refused}
 
 -- A command or an answer in document 01's numbers: the number of the table and the values of its fields.
 pub record Message : Type 0 where
@@ -69,15 +65,15 @@ abbrev pub sent_as : Dissected → Sent
 sent_as d = record { message = message_of d.command; cast = d.cast }
 
 -- The dissector's answer: its refusal, or done with the command's number, its fields and its cast.
-abbrev pub dissection_as : Dissection → Outcome Sent
-dissection_as (Accepted d) = done (sent_as d)
-dissection_as (Refused e) = refused_for (reason_of e)
+abbrev pub dissection_as : Result Dissected Refusal → Outcome Sent
+dissection_as (Ok d) = done (sent_as d)
+dissection_as (Err e) = refused_for (reason_of e)
 
 -- What the heading of a telegram says of its bytes: its refusal, or done with the command in them and its cast.
-abbrev pub heading_as : List ℕ → Telegram → Heading → Outcome Sent
-heading_as s t (To cast) =
+abbrev pub heading_as : List ℕ → Telegram → Result Cast Refusal → Outcome Sent
+heading_as s t (Ok cast) =
     done (record { message = numbered t.command (fields_by (layout_of t.command) (payload_in s t.size)); cast = cast })
-heading_as s t (Heading-refused e) = refused_for (reason_of e)
+heading_as s t (Err e) = refused_for (reason_of e)
 
 -- Of a row and a cast: 7 for a cast that the table doesn't list, then 8.
 abbrev pub fitting : List ℕ → Telegram → Row → Cast → Outcome Sent
@@ -104,9 +100,9 @@ composing n p =
     after (row_of n) (λ (r : Row). refuse (not (payload_fits r (length p))) 8 (done (numbered n (fields_by (layout_of n) p))))
 
 -- The code's answer: its refusal, or done with the command.
-abbrev pub composed_as : Composed → Outcome Message
-composed_as (Command-accepted c) = done (message_of c)
-composed_as (Command-refused e) = refused_for (reason_of e)
+abbrev pub composed_as : Result Command Refusal → Outcome Message
+composed_as (Ok c) = done (message_of c)
+composed_as (Err e) = refused_for (reason_of e)
 
 -- The command builder, of a command, its cast and the length of the room: 10, 7, 9.
 unfoldable pub building_command : Message → Cast → ℕ → Outcome (List ℕ)
@@ -129,3 +125,10 @@ parts_by l m =
 -- A command laid out.
 abbrev pub laid_out : Message → Parts
 laid_out m = parts_by (layout_of m.number) m
+
+-- The address of a cast for a command laid out: 10 for a cast or a duty out of range.
+abbrev pub ranged_address : Parts → Cast → Outcome Address
+ranged_address p cast =
+    refuse (not (cast_in_range cast)) 10
+    (refuse (not p.fit) 10
+    (done (record { 0 = address_of cast })))

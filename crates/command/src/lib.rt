@@ -4,18 +4,18 @@
 mod numbers;
 mod payload;
 
-ghost use Rattle.std.specs.Prelude.{◌≡◌, ℕ, ◌+◌, ◌≤◌, List, length};
-ghost use Rattle.telegram.specs.Numbers.{built_as, counted, leaves};
+ghost use Rattle.std.specs.Prelude.{◌≡◌, ℕ, ◌+◌, ◌≤◌, List, length, take};
+ghost use Rattle.telegram.specs.Numbers.{outcome_of, counted, leaves};
 ghost use Rattle.command.specs.Fields.{pwm_fields};
-ghost use Rattle.command.specs.Commands.{numbered, message_of, dissection_as, composed_as, composing, naming, dissecting, building_command, heading_as};
+ghost use Rattle.command.specs.Commands.{numbered, message_of, dissection_as, composed_as, composing, naming, dissecting, ranged_address, building_command, heading_as};
 
 use numbers::command_of;
 pub use numbers::command_parts;
-pub use payload::{one_byte, pwm_from, pwm_of, pwm_parts, three_bytes, word_parts};
-use table::{Cast, Destination, Entry};
-use telegram::{Address, Built, Read, Refusal, Telegram};
+pub use payload::{octets_parts, pwm_from, pwm_of, pwm_parts, word_parts};
+use table::Cast;
+use telegram::{Address, Refusal, Telegram};
 
-// A PWM word: the current mode (daytime or night) and the duty, up to 32,767.
+// A PWM word: the current mode (daytime or night, one bit) and the duty, up to 32,767.
 #[derive(Clone, Copy)]
 pub struct Pwm {
     pub day: bool,
@@ -23,6 +23,7 @@ pub struct Pwm {
 }
 
 // The commands of the table, with their fields. Those that end in Sr are acknowledged: sent with a status request, document 001's SR.
+// Each number of the table has a case of its own, as the specification names them (`message_of`).
 #[derive(Clone, Copy)]
 pub enum Command {
     Reset,
@@ -60,28 +61,9 @@ pub struct Dissected {
     pub command: Command,
 }
 
-// What the command dissector answers.
-#[derive(Clone, Copy)]
-pub enum Dissection {
-    Accepted(Dissected),
-    Refused(Refusal),
-}
-
-// What a telegram that was read names: the cast of a command with a payload of the right size.
-#[derive(Clone, Copy)]
-pub enum Heading {
-    To(Cast),
-    Refused(Refusal),
-}
-
-// What a number and the bytes of a payload make.
-#[derive(Clone, Copy)]
-pub enum Composed {
-    Accepted(Command),
-    Refused(Refusal),
-}
-
 // A command or an answer laid out: its number, its payload in the first `size` bytes, and whether its duties are in range.
+// Fixed memory: a library crate has no heap, so an array and how much of it counts; `payload` gives that part. `fit` is no Option of the
+// whole, since the contract equates every field with `laid_out`.
 #[derive(Clone, Copy)]
 pub struct Parts {
     pub number: u8,
@@ -90,109 +72,100 @@ pub struct Parts {
     pub fit: bool,
 }
 
+impl Parts {
+    // The payload: of the 8 bytes the first `size`, all where it is larger.
+    pub fn payload(&self) -> &[u8]
+        ensures { result.now ≡ take self.now.size self.now.bytes }
+    {
+        &self.bytes[..self.size.min(8)]
+    }
+}
+
 // The command of a number and the bytes of its payload. Refusals 6, then 8.
-pub fn compose(n: u8, payload: &[u8]) -> Composed
+#[tactic(auto, unfolding(crate::specs::Commands::composing))]
+pub fn compose(n: u8, payload: &[u8]) -> Result<Command, Refusal>
     ensures { composed_as result ≡ composing n payload.now }
 {
-    let entry = table::row_of(n);
-    let Entry::Known(row) = entry else {
-        return Composed::Refused(Refusal::UnknownCommand);
+    let Some(row) = table::row_of(n) else {
+        return Err(Refusal::UnknownCommand);
     };
-    let size = payload.len();
-    if !table::payload_fits(row, size) {
-        return Composed::Refused(Refusal::PayloadSize);
+    if !table::payload_fits(row, payload.len()) {
+        return Err(Refusal::PayloadSize);
     }
-    Composed::Accepted(command_of(n, payload))
+    Ok(command_of(n, payload))
 }
 
 // The cast that a telegram which was read names, for a command of the table. Refusals 6, 7, 8.
-pub fn heading_of(t: Telegram) -> Heading
+#[tactic(auto, unfolding(crate::specs::Commands::naming))]
+pub fn heading_of(t: Telegram) -> Result<Cast, Refusal>
     ensures { (s : List ℕ) → heading_as s t result ≡ naming s t }
 {
-    let n = t.command;
-    let entry = table::row_of(n);
-    let Entry::Known(row) = entry else {
-        return Heading::Refused(Refusal::UnknownCommand);
+    let Some(row) = table::row_of(t.command) else {
+        return Err(Refusal::UnknownCommand);
     };
-    let address = t.address;
-    let destination = table::destination_of(address);
-    let Destination::To(cast) = destination else {
-        return Heading::Refused(Refusal::CastNotAllowed);
+    let Some(cast) = table::destination_of(t.address) else {
+        return Err(Refusal::CastNotAllowed);
     };
-    let casts = row.casts;
-    if !table::cast_listed(casts, cast) {
-        return Heading::Refused(Refusal::CastNotAllowed);
+    if !table::cast_listed(row.casts, cast) {
+        return Err(Refusal::CastNotAllowed);
     }
-    let size = t.size;
-    if !table::payload_fits(row, size) {
-        return Heading::Refused(Refusal::PayloadSize);
+    if !table::payload_fits(row, t.size) {
+        return Err(Refusal::PayloadSize);
     }
-    Heading::To(cast)
+    Ok(cast)
 }
 
 // What a telegram that was read names, with its fields. Refusals 6, 7, 8.
-fn name_command(s: &[u8], t: Telegram) -> Dissection
+fn name_command(s: &[u8], t: Telegram) -> Result<Dissected, Refusal>
     requires { 3 + t.size ≤ length s.now }
     ensures { dissection_as result ≡ naming s.now t }
 {
-    let heading = heading_of(t);
-    match heading {
-        Heading::To(cast) => {
-            let end = 3 + t.size;
-            let command = command_of(t.command, &s[3..end]);
-            Dissection::Accepted(Dissected { cast, command })
-        }
-        Heading::Refused(e) => Dissection::Refused(e),
-    }
+    let cast = heading_of(t)?;
+    let command = command_of(t.command, &s[3..3 + t.size]);
+    Ok(Dissected { cast, command })
 }
 
 // The command dissector. Refusals 1 to 8.
-pub fn dissect(s: &[u8]) -> Dissection
+#[tactic(auto, unfolding(crate::specs::Commands::dissecting))]
+pub fn dissect(s: &[u8]) -> Result<Dissected, Refusal>
     ensures { dissection_as result ≡ dissecting s.now }
 {
     let r = telegram::read_telegram(s);
-    let Read::Accepted(t) = r else {
-        return Dissection::Refused(telegram::refusal_of(r));
+    let Ok(t) = r else {
+        return Err(r.unwrap_err());
     };
     name_command(s, t)
 }
 
+// The address that a command is built for: its cast and its duties are in range. Refusal 10.
+fn ranged_address(parts: &Parts, cast: Cast) -> Result<Address, Refusal>
+    ensures { outcome_of result ≡ ranged_address parts.now cast }
+{
+    if !table::cast_in_range(cast) || !parts.fit {
+        return Err(Refusal::OutOfRange);
+    }
+    Ok(Address(table::address_of(cast)))
+}
+
 // The command builder. Refusals 10, 7, 9.
-pub fn build_command(command: Command, cast: Cast, out: &mut [u8]) -> Built
-    ensures result_value { built_as result ≡ counted (building_command (message_of command) cast (length out.old)) }
+pub fn build_command(command: Command, cast: Cast, out: &mut [u8]) -> Result<usize, Refusal>
+    ensures result_value { outcome_of result ≡ counted (building_command (message_of command) cast (length out.old)) }
     ensures out_after { out.new ≡ leaves (building_command (message_of command) cast (length out.old)) out.old }
 {
     let parts = command_parts(command);
-    if !table::cast_in_range(cast) {
-        return Built::Refused(Refusal::OutOfRange);
+    let address = ranged_address(&parts, cast)?;
+    if !table::lists_cast(parts.number, cast) {
+        return Err(Refusal::CastNotAllowed);
     }
-    if !parts.fit {
-        return Built::Refused(Refusal::OutOfRange);
-    }
-    let number = parts.number;
-    if !table::lists_cast(number, cast) {
-        return Built::Refused(Refusal::CastNotAllowed);
-    }
-    let size = parts.size;
-    let bytes = parts.bytes;
-    let address = Address(table::address_of(cast));
-    telegram::build_telegram(address, number, &bytes[..size], out)
+    telegram::build_telegram(address, parts.number, parts.payload(), out)
 }
 
-// The command builder for SETPWM alone, which goes to every cast: nothing is left to be looked up. Refusals 10, 9.
-pub fn build_pwm(r: Pwm, g: Pwm, b: Pwm, cast: Cast, out: &mut [u8]) -> Built
-    ensures result_value { built_as result ≡ counted (building_command (numbered 0x4F (pwm_fields r g b)) cast (length out.old)) }
+// The command builder for SETPWM alone, which goes to every cast: the table is not looked up. docs/PROMISES.md names it. Refusals 10, 9.
+pub fn build_pwm(r: Pwm, g: Pwm, b: Pwm, cast: Cast, out: &mut [u8]) -> Result<usize, Refusal>
+    ensures result_value { outcome_of result ≡ counted (building_command (numbered 0x4F (pwm_fields r g b)) cast (length out.old)) }
     ensures out_after { out.new ≡ leaves (building_command (numbered 0x4F (pwm_fields r g b)) cast (length out.old)) out.old }
 {
     let parts = pwm_parts(0x4F, r, g, b);
-    if !table::cast_in_range(cast) {
-        return Built::Refused(Refusal::OutOfRange);
-    }
-    if !parts.fit {
-        return Built::Refused(Refusal::OutOfRange);
-    }
-    let size = parts.size;
-    let bytes = parts.bytes;
-    let address = Address(table::address_of(cast));
-    telegram::build_telegram(address, 0x4F, &bytes[..size], out)
+    let address = ranged_address(&parts, cast)?;
+    telegram::build_telegram(address, parts.number, parts.payload(), out)
 }

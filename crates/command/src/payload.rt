@@ -1,6 +1,6 @@
 // How the bytes of a payload hold fields, and messages laid out: document 01, "Commands", on payloads.
-ghost use Rattle.std.specs.Prelude.{◌≡◌, ◌+◌, ◌*◌, ◌/◌, ◌%◌, ◌&&◌, [], ◌∷◌, leb};
-ghost use Rattle.command.specs.Fields.{octets, word as word_layout, pwm as pwm_layout, mode_of, pwm_fields};
+ghost use Rattle.std.specs.Prelude.{◌≡◌, ◌<◌, ◌+◌, ◌*◌, ◌/◌, ◌%◌, ◌&&◌, [], ◌∷◌, leb, length, take};
+ghost use Rattle.command.specs.Fields.{octets, word_at, word as word_layout, pwm as pwm_layout, mode_of, pwm_fields};
 ghost use Rattle.command.specs.Commands.{numbered, parts_by};
 
 use crate::{Parts, Pwm};
@@ -22,38 +22,25 @@ pub fn pwm_from(high: u8, low: u8) -> Pwm
     pwm_of(bits::word(high, low))
 }
 
-// A message with no field.
-pub(crate) fn bare_parts(number: u8) -> Parts
-    ensures { result ≡ parts_by octets (numbered number []) }
+// The PWM word at an index of a payload.
+pub(crate) fn pwm_at(p: &[u8], i: usize) -> Pwm
+    requires { i + 1 < length p.now }
+    ensures { (mode_of result ≡ word_at p.now i / 32768) × (result.duty ≡ word_at p.now i % 32768) }
 {
-    Parts {
-        number,
-        bytes: [0; 8],
-        size: 0,
-        fit: true,
-    }
+    pwm_from(p[i], p[i + 1])
 }
 
-// A message whose one byte is its field.
-pub fn one_byte(number: u8, x: u8) -> Parts
-    ensures { result ≡ parts_by octets (numbered number (x ∷ [])) }
+// A message whose fields are single bytes, the first 8 of them at most.
+pub fn octets_parts(number: u8, fields: &[u8]) -> Parts
+    ensures { result ≡ parts_by octets (numbered number (take 8 fields.now)) }
 {
+    let size = fields.len().min(8);
+    let mut bytes = [0; 8];
+    bytes[..size].copy_from_slice(&fields[..size]);
     Parts {
         number,
-        bytes: [x, 0, 0, 0, 0, 0, 0, 0],
-        size: 1,
-        fit: true,
-    }
-}
-
-// A message whose three bytes are its fields.
-pub fn three_bytes(number: u8, x: u8, y: u8, z: u8) -> Parts
-    ensures { result ≡ parts_by octets (numbered number (x ∷ y ∷ z ∷ [])) }
-{
-    Parts {
-        number,
-        bytes: [x, y, z, 0, 0, 0, 0, 0],
-        size: 3,
+        bytes,
+        size,
         fit: true,
     }
 }
@@ -62,12 +49,7 @@ pub fn three_bytes(number: u8, x: u8, y: u8, z: u8) -> Parts
 pub fn word_parts(number: u8, w: u16) -> Parts
     ensures { result ≡ parts_by word_layout (numbered number (w ∷ [])) }
 {
-    Parts {
-        number,
-        bytes: [(w / 256) as u8, (w % 256) as u8, 0, 0, 0, 0, 0, 0],
-        size: 2,
-        fit: true,
-    }
+    octets_parts(number, &w.to_be_bytes())
 }
 
 // A PWM word put together. Only the low 15 bits of the duty fit.
@@ -84,7 +66,7 @@ fn pwm_word(x: Pwm) -> u16
 fn duties_fit(r: u16, g: u16, b: u16) -> bool
     ensures { result ≡ (leb r 32767 && (leb g 32767 && leb b 32767)) }
 {
-    bits::and(r <= 32767, bits::and(g <= 32767, b <= 32767))
+    r <= 32767 && g <= 32767 && b <= 32767
 }
 
 // A message that holds three PWM words.
@@ -94,20 +76,16 @@ pub fn pwm_parts(number: u8, r: Pwm, g: Pwm, b: Pwm) -> Parts
     let u = pwm_word(r);
     let v = pwm_word(g);
     let w = pwm_word(b);
-    let fit = duties_fit(r.duty, g.duty, b.duty);
+    let bytes = [
+        bits::high(u),
+        bits::low(u),
+        bits::high(v),
+        bits::low(v),
+        bits::high(w),
+        bits::low(w),
+    ];
     Parts {
-        number,
-        bytes: [
-            (u / 256) as u8,
-            (u % 256) as u8,
-            (v / 256) as u8,
-            (v % 256) as u8,
-            (w / 256) as u8,
-            (w % 256) as u8,
-            0,
-            0,
-        ],
-        size: 6,
-        fit,
+        fit: duties_fit(r.duty, g.duty, b.duty),
+        ..octets_parts(number, &bytes)
     }
 }

@@ -4,44 +4,45 @@
 mod below;
 mod facts;
 mod grid;
+mod heads;
 
-// Of more bytes than the table has columns, a line that counts them.
-fn put_page(out: &mut [u8], book: &[u8], s: &[u8], n: usize) -> usize {
-    if 16 < n {
-        return words::put_form(
-            out,
-            0,
-            book,
-            b"%d bytes; a telegram has 4 to 12\n",
-            [n as u64, 0, 0, 0, 0, 0, 0, 0],
-            b"",
-        );
+use complaint::{Complaint, Status, Subcommand, Voice};
+use std::fmt::Write;
+use text::{Page, first};
+use verdict::Verdict;
+
+// Prints the table and the verdict of n bytes. More than 16 are judged by the first 16, which are all that is kept of them: see the script
+// of a replay.
+fn show<R: Print>(rt: &R, voice: Voice, bytes: &[u8], n: usize) -> Status {
+    let mut room = io::buffer();
+    let mut page = Page::over(&mut room);
+    let v = verdict::judge(bytes);
+    if n <= 16 {
+        grid::put_table(&mut page, bytes);
+    } else {
+        let _ = writeln!(page, "{n} bytes; a telegram has 4 to 12");
     }
-    grid::put_table(out, book, s)
-}
-
-// Prints the table and the verdict of n bytes. More than 16 are judged by the first 16: see the script of a replay.
-fn show<R: Print>(rt: &R, bytes: [u8; 16], n: usize, err: i32) -> u8 {
-    let mut page = io::buffer();
-    let book = words::book();
-    let s = text::first(&bytes, n);
-    let v = verdict::judge(s);
-    let a = put_page(&mut page, &book, s, n);
-    let k = below::put_verdict(&mut page, a, &book, v, bytes, n);
-    complaint::finish(rt, err, complaint::FIELDS, &page, k, below::is_refused(v))
+    below::put_verdict(&mut page, v, n);
+    let status = Status::of(matches!(v, Verdict::Refused(_, _)));
+    voice.finish(rt, page.written(), status)
 }
 
 // The subcommand, on the words behind its name. Answers its status.
-pub fn show_fields<R: Print>(rt: &R, arguments: &[u8], err: i32) -> u8 {
-    let mut space = io::buffer();
+pub fn show_fields<R: Print>(rt: &R, arguments: &[u8], err: i32) -> Status {
+    let voice = Voice {
+        err,
+        subcommand: Subcommand::Fields,
+    };
+    let mut room = io::buffer();
+    let mut line = Page::over(&mut room);
+    line.put_arguments(arguments);
     let mut bytes = [0u8; 16];
-    let n = text::reading::put_arguments(&mut space, 0, arguments);
-    let h = text::reading::hex_at(text::first(&space, n), 0, &mut bytes);
-    if h.at < n {
-        return complaint::say(err, complaint::FIELDS, complaint::BYTES_EXPECTED);
+    let h = text::reading::hex_at(line.written(), 0, &mut bytes);
+    if h.at < line.used {
+        return voice.say(Complaint::BytesExpected);
     }
-    if n == 0 {
-        return complaint::say(err, complaint::FIELDS, complaint::TELEGRAM_EXPECTED);
+    if line.used == 0 {
+        return voice.say(Complaint::TelegramExpected);
     }
-    show(rt, bytes, h.count, err)
+    show(rt, voice, first(&bytes, h.count), h.count)
 }

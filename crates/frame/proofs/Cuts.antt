@@ -8,6 +8,7 @@ use mathlib.Core.Logic.{◌⊎◌, inl, inr, ⊎_elim}
 use Prim.Native.Nat.{ℕ, ◌+◌, ◌/◌, ◌<◌, ◌≤◌}
 use native.Mathlib.Omega.{arith}
 use borrow.Author.Tests.{lt-ltb, le-ltb, eq-eqb, ne_eqb, ltb-true, ltb-false, eqb-true, eqb-false, not-false}
+use Rattle.std.proofs.lemmas.Bool.{cases_lt, cases_eq}
 use lib.Dec.{eqb, ltb}
 use lib.ListN.{length, get_or, take, drop, length-append, take-append-drop, get_or-append}
 use lib.Seq.{length-take-le}
@@ -93,21 +94,6 @@ size-most s y = size-by (eqb (index_in s) 7) (index_in s) (omega (arith, y 1, y 
 pub whole-most : (s : List ℕ) (n : ℕ) → Bytes s → cutting s ≡ whole n → n ≤ 12
 whole-most s n y e = omega (arith, (complete s n e).size, size-most s y)
 
--- Two numbers are in one order or the other, and the same or not.
-order-by : (a b : ℕ) (x : Bool) → ltb a b ≡ x → (a < b) ⊎ (b ≤ a)
-order-by a b true e = inl (ltb-true a b e)
-order-by a b false e = inr (ltb-false a b e)
-
-pub lt-or-ge : (a b : ℕ) → (a < b) ⊎ (b ≤ a)
-lt-or-ge a b = order-by a b (ltb a b) refl
-
-same_by : (a b : ℕ) (x : Bool) → eqb a b ≡ x → (a ≡ b) ⊎ (a ≡ b → ⊥)
-same_by a b true e = inl (eqb-true a b e)
-same_by a b false e = inr (eqb-false a b e)
-
-eq-or-ne : (a b : ℕ) → (a ≡ b) ⊎ (a ≡ b → ⊥)
-eq-or-ne a b = same_by a b (eqb a b) refl
-
 -- What bytes show, if it is more than that more are needed, they show with more bytes behind them too.
 module _ (u v : List ℕ) where
   same_at : (k : ℕ) → k < length u → get_or (u ++ v) k 0 ≡ get_or u k 0
@@ -132,8 +118,8 @@ module _ (u v : List ℕ) where
       (λ z. ⊎_elim (λ m. inl (sym (cut-part u a q b z m)))
       (λ m.
       inr (sym (cut-whole (u ++ v) a' (e ∙ q) b' (λ x. z (sym i ∙ x)) (omega (arith, s))) ∙ ap (λ (k : ℕ). whole (4 + k)) s ∙ cut-whole u a q b z m))
-      (lt-or-ge (length u) (4 + size_of (index_in u)))) (eq-or-ne (index_in u) 5)) (lt-or-ge (length u) 3))
-      (λ q. inr (sym (cut-preamble (u ++ v) a' (λ x. q (sym e ∙ x))) ∙ cut-preamble u a q)) (eq-or-ne (preamble_in u) 10)) (lt-or-ge (length u) 1)
+      (cases_lt (length u) (4 + size_of (index_in u)))) (cases_eq (index_in u) 5)) (cases_lt (length u) 3))
+      (λ q. inr (sym (cut-preamble (u ++ v) a' (λ x. q (sym e ∙ x))) ∙ cut-preamble u a q)) (cases_eq (preamble_in u) 10)) (cases_lt (length u) 1)
 
   -- The front of an unfinished telegram is unfinished.
   pub front-incomplete : cutting (u ++ v) ≡ incomplete → cutting u ≡ incomplete
@@ -217,7 +203,7 @@ whole-past u v n e w =
     let i : index_in (u ++ v) ≡ index_in u = same_index u v (omega arith) in
     let k = cut-whole u (omega arith) p (omega arith) (λ x. q.index (i ∙ x)) (omega (arith, ap (λ (x : ℕ). 4 + size_of x) i, q.size)) in
     absurd (not-whole (sym e ∙ sym k)))
-    (lt-or-ge (length u) n)
+    (cases_lt (length u) n)
 
 -- Where the last byte makes it whole, it is these bytes and no more.
 pub whole-last : (u : List ℕ) (b n : ℕ) → cutting u ≡ incomplete → cutting (u ++ b ∷ []) ≡ whole n → length (u ++ b ∷ []) ≡ n

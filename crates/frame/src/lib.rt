@@ -6,7 +6,8 @@ ghost use Rattle.frame.specs.Frame.{cut_as, cutting};
 
 use telegram::Refusal;
 
-// What the bytes from a telegram's first on show: more are needed, a refusal, or a telegram of so many bytes.
+// What the bytes from a telegram's first on show: more are needed, a refusal, or a telegram of so many bytes. An enum of its own: these
+// are three outcomes, which a Result of an Option would no longer name.
 #[derive(Clone, Copy)]
 pub enum Cut {
     Incomplete,
@@ -22,22 +23,17 @@ pub fn cut_first(s: &[u8]) -> Cut
     if n < 1 {
         return Cut::Incomplete;
     }
-    let b0 = s[0];
-    let preamble = b0 / 16;
-    if preamble != 10 {
+    if s[0] / 16 != 10 {
         return Cut::Broken(Refusal::Preamble);
     }
     if n < 3 {
         return Cut::Incomplete;
     }
-    let b1 = s[1];
-    let b2 = s[2];
-    let index = telegram::index_in(b1, b2);
+    let index = telegram::index_in(s[1], s[2]);
     if index == 5 {
         return Cut::Broken(Refusal::SizeIndex);
     }
-    let size = telegram::size_of(index);
-    let total = 4 + size;
+    let total = 4 + telegram::size_of(index);
     if n < total {
         return Cut::Incomplete;
     }

@@ -1,84 +1,90 @@
-// What is printed of a line of a script for machines: an object a line.
-use crate::{Given, Kind, Line};
-use words::{Told, bare, objects, put_told, texts, values_told};
+// What is printed of a line for machines: an object a line.
+use crate::{Given, Line, Telegram, is_either};
+use std::fmt::Write;
+use telegram::Refusal;
+use text::Page;
+use words::{message_of, objects};
+
+// Appends the bytes of a telegram behind the start of an object: where it stands.
+fn put_sent(page: &mut Page, called: &[u8], at: u64, t: &Telegram) {
+    page.put(called);
+    page.put_decimal(at);
+    page.put(b",\"tx\":\"");
+    page.put_all_hex(t.bytes());
+    page.put_byte(b'"');
+}
 
 // Appends the answer, or that there is none.
-fn put_received(out: &mut [u8], at: usize, book: &[u8], answer: [u8; 16], size: usize) -> usize {
-    if size == 0 {
-        return put_told(out, at, book, bare(texts::JSON_NONE), b"");
+fn put_received(page: &mut Page, answer: &Option<Telegram>) {
+    let Some(t) = answer else {
+        page.put(b",\"rx\":null}\n");
+        return;
+    };
+    page.put(b",\"rx\":\"");
+    page.put_all_hex(t.bytes());
+    page.put_byte(b'"');
+    if let Ok(m) = message_of(t.bytes()) {
+        objects::put_answer(page, m);
     }
-    let a = put_told(
-        out,
-        at,
-        book,
-        bare(texts::JSON_RECEIVED),
-        text::first(&answer, size),
-    );
-    objects::put_answer(out, a, book, words::message_of(answer, size))
 }
 
 // Appends a command, and for one that may be an answer that it is either.
-fn put_command(out: &mut [u8], at: usize, book: &[u8], line: Line, given: Given) -> usize {
-    let bytes = line.bytes;
-    let a = objects::put_command(out, at, book, words::message_of(bytes, line.count));
-    if !crate::is_either(line, given) {
-        return a;
+fn put_command(page: &mut Page, s: &[u8], either: bool) {
+    if let Ok(m) = message_of(s) {
+        objects::put_command(page, m);
     }
-    put_told(out, a, book, bare(texts::JSON_EITHER), b"")
+    if either {
+        page.put(b",\"either\":true");
+    }
 }
 
-// The start of an object: where the line stands, and what it says.
-fn line_told(before: u64, line: Line) -> Told {
-    let kind = line.kind;
+// Appends a refusal as the end of an object.
+fn put_refused(page: &mut Page, e: Refusal) {
+    page.put_byte(b',');
+    words::put_members(page, e);
+    page.put(b"}\n");
+}
+
+// Appends what the chain gave for a telegram.
+fn put_given(page: &mut Page, t: &Telegram, either: bool, given: &Given) {
+    match given {
+        Ok(answer) => {
+            put_command(page, t.bytes(), either);
+            put_received(page, answer);
+        }
+        Err(e) => put_refused(page, *e),
+    }
+}
+
+// Appends what is printed of a line; nothing of one that says nothing.
+pub(crate) fn put_line(page: &mut Page, before: u64, line: &Line, given: &Given) {
     let number = before.wrapping_add(1);
-    match kind {
-        Kind::Sensor => values_told(
-            texts::JSON_SENSOR,
-            number,
-            line.place as u64,
-            line.temperature as u64,
-            line.faults as u64,
-        ),
-        Kind::Captured => values_told(texts::JSON_CAPTURED, before, 0, 0, 0),
-        _ => values_told(texts::JSON_SENT, number, 0, 0, 0),
+    match line {
+        Line::Sent(t) => {
+            put_sent(page, b"{\"line\":", number, t);
+            put_given(page, t, false, given);
+        }
+        Line::Captured(t) => {
+            put_sent(page, b"{\"position\":", before, t);
+            put_given(page, t, is_either(line, given), given);
+        }
+        Line::Sensor(r) => {
+            let _ = write!(
+                page,
+                "{{\"line\":{number},\"place\":{},\"temperature\":{},\"faults\":{}",
+                r.place, r.temperature, r.faults
+            );
+            match given {
+                Ok(_) => page.put(b",\"number\":0}\n"),
+                Err(e) => put_refused(page, *e),
+            }
+        }
+        Line::Blank | Line::Malformed => {}
     }
 }
 
-// The end of an object: a refusal, or a report that was done.
-fn end_told(refusal: u32) -> Told {
-    values_told(
-        if refusal == 0 {
-            texts::JSON_DONE
-        } else {
-            texts::JSON_REFUSED
-        },
-        refusal as u64,
-        0,
-        0,
-        0,
-    )
-}
-
-pub fn put_line(
-    out: &mut [u8],
-    at: usize,
-    book: &[u8],
-    before: u64,
-    line: Line,
-    given: Given,
-) -> usize {
-    let bytes = line.bytes;
-    let a = put_told(
-        out,
-        at,
-        book,
-        line_told(before, line),
-        text::first(&bytes, line.count),
-    );
-    if bits::or(line.count == 0, given.refusal != 0) {
-        return put_told(out, a, book, end_told(given.refusal), b"");
-    }
-    let answer = given.answer;
-    let b = put_command(out, a, book, line, given);
-    put_received(out, b, book, answer, given.size)
+// Appends where a capture stopped.
+pub(crate) fn put_stopped(page: &mut Page, position: u64, e: Refusal) {
+    let _ = write!(page, "{{\"stopped\":{position}");
+    put_refused(page, e);
 }

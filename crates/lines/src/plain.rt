@@ -1,129 +1,107 @@
-// What is printed of a line of a script as text.
-use crate::{Given, Kind, Line};
-use words::{Told, put_told, texts, values_told};
+// What is printed of a line as text.
+use crate::{Given, Line, Report, Telegram, is_either};
+use std::fmt::Write;
+use telegram::Refusal;
+use text::Page;
+use words::{InWords, message_of};
 
-// Appends the bytes behind a tag, and spaces up to column 40. Of more than 12 bytes the first 11 are shown.
-fn put_sent(out: &mut [u8], at: usize, book: &[u8], s: &[u8]) -> usize {
-    if 12 < s.len() {
-        let told = values_told(texts::SENT_CUT, 0, 40, 0, 0);
-        return put_told(out, at, book, told, text::first(s, 11));
+// The column in which stands what a line says, or what the chain gave.
+const COLUMN: usize = 40;
+
+// Appends the bytes behind a tag, and spaces up to the column. Of more than 12 bytes the first 11 are shown.
+fn put_bytes(page: &mut Page, tag: &[u8], s: &[u8]) {
+    let start = page.used;
+    page.put(tag);
+    if s.len() <= 12 {
+        page.put_spaced_hex(s);
+    } else {
+        page.put_spaced_hex(text::first(s, 11));
+        page.put(b" ..");
     }
-    let a = text::put(out, at, b"tx");
-    let b = text::put_spaced_hex(out, a, s);
-    text::put_spaces(out, b, at, 40)
+    page.put_spaces(start, COLUMN);
 }
 
 // Appends the answer, or that there is none.
-fn put_received(out: &mut [u8], at: usize, book: &[u8], answer: [u8; 16], size: usize) -> usize {
-    if size == 0 {
-        return text::put(out, at, b"\nrx none\n");
+fn put_received(page: &mut Page, answer: &Option<Telegram>) {
+    let Some(t) = answer else {
+        page.put(b"\nrx none\n");
+        return;
+    };
+    page.put_byte(b'\n');
+    put_bytes(page, b"rx", t.bytes());
+    if let Ok(m) = message_of(t.bytes()) {
+        words::put_answer(page, m);
     }
-    let told = values_told(texts::RECEIVED, 0, 41, 0, 0);
-    let a = put_told(out, at, book, told, text::first(&answer, size));
-    let b = words::put_answer(out, a, book, words::message_of(answer, size));
-    text::put_byte(out, b, b'\n')
-}
-
-// The refusal behind the line's number, or behind the position in a capture.
-fn refused_told(kind: Kind, before: u64, refusal: u32) -> Told {
-    match kind {
-        Kind::Captured => values_told(texts::POSITION_REFUSED, before, refusal as u64, 0, 0),
-        _ => values_told(
-            texts::LINE_REFUSED,
-            before.wrapping_add(1),
-            refusal as u64,
-            0,
-            0,
-        ),
-    }
+    page.put_byte(b'\n');
 }
 
 // Appends a command in words, and for one that may be an answer that it was done as a command.
-fn put_command(out: &mut [u8], at: usize, book: &[u8], line: Line, given: Given) -> usize {
-    let bytes = line.bytes;
-    let m = words::message_of(bytes, line.count);
-    let a = words::put_command(out, at, book, m);
-    if !crate::is_either(line, given) {
-        return a;
+fn put_command(page: &mut Page, s: &[u8], either: bool) {
+    let Ok(m) = message_of(s) else {
+        return;
+    };
+    words::put_command(page, m);
+    if either {
+        page.put(b" (or an answer of ");
+        page.put_address(m.address);
+        page.put(b"; done as a command)");
     }
-    let told = values_told(texts::EITHER, m.address as u64, 0, 0, 0);
-    put_told(out, a, book, told, b"")
 }
 
-fn put_telegram(
-    out: &mut [u8],
-    at: usize,
-    book: &[u8],
-    before: u64,
-    line: Line,
-    given: Given,
-) -> usize {
-    let bytes = line.bytes;
-    let a = put_sent(out, at, book, text::first(&bytes, line.count));
-    if given.refusal != 0 {
-        let kind = line.kind;
-        return put_told(out, a, book, refused_told(kind, before, given.refusal), b"");
-    }
-    let answer = given.answer;
-    let b = put_command(out, a, book, line, given);
-    put_received(out, b, book, answer, given.size)
+// Appends a refusal behind the line's number, or behind the position in a capture.
+fn put_refused(page: &mut Page, before: u64, line: &Line, e: Refusal) {
+    let _ = match line {
+        Line::Captured(_) => writeln!(page, "position {before}: {}", InWords(e)),
+        _ => writeln!(page, "line {}: {}", before.wrapping_add(1), InWords(e)),
+    };
 }
 
-// What a report did. Its faults are the lowest three flags of a status byte.
-fn sensed_told(line: Line) -> Told {
-    let faults = line.faults as u64;
-    values_told(
-        if faults == 0 {
-            texts::SENSED_NONE
-        } else {
-            texts::SENSED
-        },
-        line.place as u64,
-        line.temperature as u64,
-        faults,
-        0,
-    )
-}
-
-fn put_sensor(
-    out: &mut [u8],
-    at: usize,
-    book: &[u8],
-    before: u64,
-    line: Line,
-    refusal: u32,
-) -> usize {
-    let said = values_told(
-        texts::SENSOR,
-        line.place as u64,
-        line.temperature as u64,
-        line.faults as u64,
-        40,
+// Appends what a report did. Its faults are the lowest three flags of a status byte.
+fn put_sensed(page: &mut Page, r: &Report) {
+    let _ = write!(
+        page,
+        "place {}: temperature {:02X}, sets ",
+        r.place, r.temperature
     );
-    let a = put_told(out, at, book, said, b"");
-    if refusal != 0 {
-        return put_told(
-            out,
-            a,
-            book,
-            refused_told(Kind::Sensor, before, refusal),
-            b"",
-        );
-    }
-    put_told(out, a, book, sensed_told(line), b"")
+    words::put_flags(page, (r.faults % 256) as u8, b"no flag");
+    page.put_byte(b'\n');
 }
 
-pub fn put_line(
-    out: &mut [u8],
-    at: usize,
-    book: &[u8],
-    before: u64,
-    line: Line,
-    given: Given,
-) -> usize {
-    let kind = line.kind;
-    match kind {
-        Kind::Sensor => put_sensor(out, at, book, before, line, given.refusal),
-        _ => put_telegram(out, at, book, before, line, given),
+// Appends what is printed of a line; nothing of one that says nothing.
+pub(crate) fn put_line(page: &mut Page, before: u64, line: &Line, given: &Given) {
+    match line {
+        Line::Sent(t) | Line::Captured(t) => {
+            put_bytes(page, b"tx", t.bytes());
+            match given {
+                Ok(answer) => {
+                    put_command(page, t.bytes(), is_either(line, given));
+                    put_received(page, answer);
+                }
+                Err(e) => put_refused(page, before, line, *e),
+            }
+        }
+        Line::Sensor(r) => {
+            let start = page.used;
+            let _ = write!(
+                page,
+                "sensor {} {:02X} {}",
+                r.place, r.temperature, r.faults
+            );
+            page.put_spaces(start, COLUMN);
+            match given {
+                Ok(_) => put_sensed(page, r),
+                Err(e) => put_refused(page, before, line, *e),
+            }
+        }
+        Line::Blank | Line::Malformed => {}
     }
+}
+
+// Appends where a capture stopped.
+pub(crate) fn put_stopped(page: &mut Page, position: u64, e: Refusal) {
+    let _ = writeln!(
+        page,
+        "capture stopped at position {position}: {}",
+        InWords(e)
+    );
 }

@@ -1,6 +1,11 @@
 // The last line of a capture that is listed: where it ended or stopped, and how many telegrams there were.
+use crate::Form;
+use std::fmt;
+use std::fmt::Write;
+use telegram::Refusal;
+use text::Page;
 use verdict::Verdict;
-use words::{Told, values_told};
+use words::{InWords, put_number};
 
 // How many telegrams there were, and how many of them were commands, answers, either and neither.
 #[derive(Clone, Copy)]
@@ -12,122 +17,115 @@ pub struct Tally {
     pub neither: u64,
 }
 
-pub fn no_telegrams() -> Tally {
-    Tally {
-        telegrams: 0,
-        commands: 0,
-        answers: 0,
-        either: 0,
-        neither: 0,
-    }
-}
-
-// The tally with a telegram more.
-pub fn counted(t: Tally, v: Verdict) -> Tally {
-    let mut next = t;
-    next.telegrams = t.telegrams.wrapping_add(1);
-    match v {
-        Verdict::Sent => {
-            next.commands = t.commands.wrapping_add(1);
-        }
-        Verdict::Given => {
-            next.answers = t.answers.wrapping_add(1);
-        }
-        Verdict::Either => {
-            next.either = t.either.wrapping_add(1);
-        }
-        Verdict::Refused(_, _) => {
-            next.neither = t.neither.wrapping_add(1);
+impl Tally {
+    // No telegrams.
+    pub fn none() -> Tally {
+        Tally {
+            telegrams: 0,
+            commands: 0,
+            answers: 0,
+            either: 0,
+            neither: 0,
         }
     }
-    next
-}
 
-// The form for where it ended, or stopped by a refusal, and behind how many telegrams.
-fn start_row(json: bool, stopped: bool) -> u8 {
-    if json {
-        return if stopped { 3 } else { 2 };
-    }
-    if stopped { 1 } else { 0 }
-}
-
-// The counts of an object.
-fn object_counts(t: Tally, refusal: u64) -> [u64; 8] {
-    [t.commands, t.answers, t.either, t.neither, refusal, 0, 0, 0]
-}
-
-// The counts as text, of those that are either only where there are any.
-fn text_counts(t: Tally) -> [u64; 8] {
-    let c = t.commands;
-    let a = t.answers;
-    if t.either == 0 {
-        return [c, c, a, a, t.neither, 0, 0, 0];
-    }
-    [c, c, a, a, t.either, t.neither, 0, 0]
-}
-
-fn counts_told(json: bool, t: Tally, refusal: u64) -> Told {
-    if json {
-        return Told {
-            row: 9,
-            values: object_counts(t, refusal),
-        };
-    }
-    Told {
-        row: if t.either == 0 { 4 } else { 5 },
-        values: text_counts(t),
+    // Counts a telegram more.
+    pub fn count(&mut self, v: Verdict) {
+        self.telegrams = self.telegrams.wrapping_add(1);
+        match v {
+            Verdict::Sent(_) => self.commands = self.commands.wrapping_add(1),
+            Verdict::Given(_) => self.answers = self.answers.wrapping_add(1),
+            Verdict::Either(_) => self.either = self.either.wrapping_add(1),
+            Verdict::Refused(_, _) => self.neither = self.neither.wrapping_add(1),
+        }
     }
 }
 
-// In place of the counts: the refusal.
-fn refusal_told(json: bool, refusal: u64) -> Told {
-    if json {
-        return values_told(8, refusal, 0, 0, 0);
+// How a capture ended, or stopped by a refusal: where, and the telegrams before that; with `quiet` without the counts.
+#[derive(Clone, Copy)]
+pub struct Ending {
+    pub quiet: bool,
+    pub position: u64,
+    pub tally: Tally,
+    pub refusal: Option<Refusal>,
+}
+
+// So many things of a name, with an s but for one.
+#[derive(Clone, Copy)]
+struct Things(u64, &'static str);
+
+impl fmt::Display for Things {
+    fn fmt<W: fmt::Write>(&self, f: &mut fmt::Formatter<W>) -> fmt::Result {
+        write!(f, "{} {}{}", self.0, self.1, plural(self.0))
     }
-    values_told(if refusal == 0 { 6 } else { 7 }, refusal, 0, 0, 0)
 }
 
-fn rest_told(json: bool, quiet: bool, t: Tally, refusal: u64) -> Told {
-    if quiet {
-        return refusal_told(json, refusal);
+// The end of a word for so many things.
+pub(crate) fn plural(n: u64) -> &'static str {
+    if n == 1 { "" } else { "s" }
+}
+
+// Appends the last line of a capture.
+pub fn put_end(page: &mut Page, form: Form, e: Ending) {
+    match form {
+        Form::Text => put_line(page, e),
+        Form::Json => put_object(page, e),
     }
-    counts_told(json, t, refusal)
 }
 
-// Appends a form.
-fn say(out: &mut [u8], at: usize, told: Told) -> usize {
-    words::put_row(
-        out,
-        at,
-        b"",
-        b"ended at position %d: %d telegram%p%;                         |
-stopped at position %d: %d telegram%p before it%;             |
-{\"ended\":%d,\"telegrams\":%d%;                                  |
-{\"stopped\":%d,\"telegrams\":%d%;                                |
- (%d command%p, %d answer%p, %d neither)\n%;                   |
- (%d command%p, %d answer%p, %d either, %d neither)\n%;        |
-\n%;                                                           |
-, %r\n%;                                                       |
-,%N}\n%;                                                       |
-,\"commands\":%d,\"answers\":%d,\"either\":%d,\"neither\":%d,%N}\n%;   |
-",
-        told,
-        b"",
-    )
+// Appends the line. The refusal stands in it where the counts do not.
+fn put_line(page: &mut Page, e: Ending) {
+    let position = e.position;
+    let telegrams = Things(e.tally.telegrams, "telegram");
+    let _ = match e.refusal {
+        None => write!(page, "ended at position {position}: {telegrams}"),
+        Some(_) => write!(
+            page,
+            "stopped at position {position}: {telegrams} before it"
+        ),
+    };
+    if !e.quiet {
+        put_counts(page, e.tally);
+    } else if let Some(refusal) = e.refusal {
+        let _ = write!(page, ", {}", InWords(refusal));
+    }
+    page.put_byte(b'\n');
 }
 
-// Appends the last line of a capture that ended, or stopped by a refusal, at a position. A refusal of 0 is none.
-pub fn put_end(
-    out: &mut [u8],
-    at: usize,
-    json: bool,
-    quiet: bool,
-    position: u64,
-    t: Tally,
-    refusal: u32,
-) -> usize {
-    let n = t.telegrams;
-    let start = values_told(start_row(json, refusal != 0), position, n, n, 0);
-    let a = say(out, at, start);
-    say(out, a, rest_told(json, quiet, t, refusal as u64))
+// Appends the counts, of those that are either only where there are any.
+fn put_counts(page: &mut Page, t: Tally) {
+    let _ = write!(
+        page,
+        " ({}, {}, ",
+        Things(t.commands, "command"),
+        Things(t.answers, "answer")
+    );
+    if t.either != 0 {
+        let _ = write!(page, "{} either, ", t.either);
+    }
+    let _ = write!(page, "{} neither)", t.neither);
+}
+
+// Appends the object.
+fn put_object(page: &mut Page, e: Ending) {
+    let t = e.tally;
+    let ending = if e.refusal.is_none() {
+        "ended"
+    } else {
+        "stopped"
+    };
+    let _ = write!(
+        page,
+        "{{\"{ending}\":{},\"telegrams\":{},",
+        e.position, t.telegrams
+    );
+    if !e.quiet {
+        let _ = write!(
+            page,
+            "\"commands\":{},\"answers\":{},\"either\":{},\"neither\":{},",
+            t.commands, t.answers, t.either, t.neither
+        );
+    }
+    put_number(page, e.refusal);
+    page.put(b"}\n");
 }

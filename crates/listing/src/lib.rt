@@ -5,127 +5,109 @@
 mod ending;
 mod refused;
 
-pub use ending::{Tally, counted, no_telegrams, put_end};
+pub use ending::{Ending, Tally, put_end};
 pub use refused::put_refused;
+use std::fmt::Write;
+use telegram::{Refusal, refusal_number};
+use text::Page;
 use verdict::Verdict;
-use words::{Message, objects, put_told, texts, values_told};
+use words::{Message, command_name, objects};
 
-// A telegram of a capture, or what is shown of a refused one: the position of its first byte, and its bytes, `count` of them.
+// How a capture is listed: as text or as JSON, an object a line.
 #[derive(Clone, Copy)]
-pub struct Piece {
+pub enum Form {
+    Text,
+    Json,
+}
+
+// A telegram of a capture, or what is shown of a refused one: the position of its first byte, and its bytes.
+#[derive(Clone, Copy)]
+pub struct Piece<'a> {
     pub position: u64,
-    pub bytes: [u8; 16],
-    pub count: usize,
+    pub bytes: &'a [u8],
 }
 
-// How many spaces stand before so many digits in ten columns.
-fn spaces_before(digits: usize) -> usize {
-    if digits < 10 { 10 - digits } else { 0 }
-}
-
-// Appends a position, right in ten columns.
-fn put_position(out: &mut [u8], at: usize, position: u64) -> usize {
-    let mut digits = [0u8; 20];
-    let n = text::put_decimal(&mut digits, 0, position);
-    let a = text::put_spaces(out, at, at, spaces_before(n));
-    text::put(out, a, text::first(&digits, n))
-}
-
-// Appends the start of a line: the position and the bytes in their columns.
-pub(crate) fn put_start(out: &mut [u8], at: usize, book: &[u8], p: Piece) -> usize {
-    let bytes = p.bytes;
-    let a = put_position(out, at, p.position);
-    let told = values_told(texts::LISTED, 0, 39, 0, 0);
-    put_told(out, a, book, told, text::first(&bytes, p.count))
+// Appends the start of a line: the position, right in ten columns, and the bytes in theirs.
+pub(crate) fn put_start(page: &mut Page, p: Piece) {
+    let _ = write!(page, "{:>10}", p.position);
+    let start = page.used;
+    page.put_byte(b' ');
+    page.put_spaced_hex(p.bytes);
+    page.put_spaces(start, 39);
 }
 
 // The start of an object: the position and the bytes.
-pub(crate) fn put_object_start(out: &mut [u8], at: usize, book: &[u8], p: Piece) -> usize {
-    let bytes = p.bytes;
-    let told = values_told(texts::JSON_LISTED, p.position, 0, 0, 0);
-    put_told(out, at, book, told, text::first(&bytes, p.count))
-}
-
-// The numbers in the bytes of a telegram.
-pub(crate) fn message_in(p: Piece) -> Message {
-    let bytes = p.bytes;
-    words::message_of(bytes, p.count)
-}
-
-// What the bytes of a telegram are.
-pub fn judged(p: Piece) -> Verdict {
-    let bytes = p.bytes;
-    verdict::judge(text::first(&bytes, p.count))
-}
-
-// Appends the numbers of the two refusals of a telegram.
-fn put_neither(
-    out: &mut [u8],
-    at: usize,
-    book: &[u8],
-    row: u8,
-    command: u32,
-    answer: u32,
-) -> usize {
-    let c = words::number_in(command) as u64;
-    let a = words::number_in(answer) as u64;
-    put_told(out, at, book, values_told(row, c, a, 0, 0), b"")
+pub(crate) fn put_object_start(page: &mut Page, p: Piece) {
+    page.put(b"{\"position\":");
+    page.put_decimal(p.position);
+    page.put(b",\"bytes\":\"");
+    page.put_all_hex(p.bytes);
+    page.put_byte(b'"');
 }
 
 // Appends what a telegram says, or the numbers of its two refusals.
-pub(crate) fn put_meaning(out: &mut [u8], at: usize, book: &[u8], v: Verdict, m: Message) -> usize {
+pub(crate) fn put_meaning(page: &mut Page, v: Verdict) {
     match v {
         Verdict::Refused(command, answer) => {
-            put_neither(out, at, book, texts::NEITHER, command, answer)
+            let _ = write!(
+                page,
+                "neither: as a command refused {}, as an answer refused {}",
+                refusal_number(command),
+                refusal_number(answer)
+            );
         }
-        _ => verdict::put_words(out, at, book, v, m),
+        _ => verdict::put_words(page, v),
     }
 }
 
-// Appends an answer as the end of an object, behind the row that names what it answers.
-fn put_given(out: &mut [u8], at: usize, book: &[u8], row: u8, m: Message) -> usize {
-    let told = values_told(row, m.number as u64, 0, 0, 0);
-    let a = put_told(out, at, book, told, b"");
-    objects::put_answer(out, a, book, m)
+// Appends what an answer answers and the answer, as the end of an object.
+fn put_given(page: &mut Page, m: Message) {
+    page.put(b",\"answers\":\"");
+    page.put(command_name(m.number).as_bytes());
+    page.put_byte(b'"');
+    objects::put_answer(page, m);
+}
+
+// The numbers of the two refusals of a telegram, as the end of an object.
+fn put_neither(page: &mut Page, command: Refusal, answer: Refusal) {
+    let _ = writeln!(
+        page,
+        ",\"number\":0,\"as_command\":{},\"as_answer\":{}}}",
+        refusal_number(command),
+        refusal_number(answer)
+    );
 }
 
 // What a telegram says, or the numbers of its two refusals, as the end of an object.
-fn put_object_end(out: &mut [u8], at: usize, book: &[u8], v: Verdict, m: Message) -> usize {
+fn put_object_end(page: &mut Page, v: Verdict) {
     match v {
-        Verdict::Sent => {
-            let a = objects::put_command(out, at, book, m);
-            text::put(out, a, b"}\n")
+        Verdict::Sent(m) => {
+            objects::put_command(page, m);
+            page.put(b"}\n");
         }
-        Verdict::Given => put_given(out, at, book, texts::JSON_ANSWERS, m),
-        Verdict::Either => {
-            let a = objects::put_command(out, at, book, m);
-            put_given(out, a, book, texts::JSON_OR_ANSWERS, m)
+        Verdict::Given(m) => {
+            page.put(b",\"number\":0");
+            put_given(page, m);
         }
-        Verdict::Refused(command, answer) => {
-            put_neither(out, at, book, texts::JSON_NEITHER, command, answer)
+        Verdict::Either(m) => {
+            objects::put_command(page, m);
+            put_given(page, m);
         }
+        Verdict::Refused(command, answer) => put_neither(page, command, answer),
     }
 }
 
-// Appends a telegram as an object.
-fn put_object(out: &mut [u8], at: usize, book: &[u8], p: Piece, v: Verdict) -> usize {
-    let a = put_object_start(out, at, book, p);
-    put_object_end(out, a, book, v, message_in(p))
-}
-
-// Appends a telegram that `v` is the verdict of. `book` is `words::book`.
-pub fn put_telegram(
-    out: &mut [u8],
-    at: usize,
-    book: &[u8],
-    json: bool,
-    p: Piece,
-    v: Verdict,
-) -> usize {
-    if json {
-        return put_object(out, at, book, p, v);
+// Appends a telegram that `v` is the verdict of.
+pub fn put_telegram(page: &mut Page, form: Form, p: Piece, v: Verdict) {
+    match form {
+        Form::Text => {
+            put_start(page, p);
+            put_meaning(page, v);
+            page.put_byte(b'\n');
+        }
+        Form::Json => {
+            put_object_start(page, p);
+            put_object_end(page, v);
+        }
     }
-    let a = put_start(out, at, book, p);
-    let b = put_meaning(out, a, book, v, message_in(p));
-    text::put_byte(out, b, b'\n')
 }

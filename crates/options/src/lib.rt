@@ -1,17 +1,14 @@
 // The options of replay, board and dump: the words behind the subcommand's name, with a byte 0 behind each.
 #![tactic(auto)]
 
-use std::fs::File;
-use std::io::{Error, Read};
-use std::rt::Files;
-use text::reading::Number;
+use complaint::{Subcommand, WrongOption};
+use text::reading::{byte_of, decimal_of};
 
-// What the options said. `next` is what the next word is: 0 an option or the file, 1 lamps, 2 setup, 3 to 5 a threshold. `wrong` is the
-// complaint about them.
+// What the options say. Dump takes no lamps: it has 0.
 #[derive(Clone, Copy)]
-pub struct Options {
+pub struct Options<'a> {
+    pub file: &'a [u8],
     pub lamps: u32,
-    pub counted: bool,
     pub setup: u8,
     pub cycle: u8,
     pub low: u8,
@@ -19,242 +16,201 @@ pub struct Options {
     pub raw: bool,
     pub quiet: bool,
     pub json: bool,
-    pub from: usize,
-    pub to: usize,
-    pub named: bool,
-    pub next: u8,
-    pub wrong: u8,
 }
 
-fn no_words() -> Options {
-    Options {
-        lamps: 0,
-        counted: false,
-        setup: 0x13,
-        cycle: 0x03,
-        low: 0xE6,
-        high: 0xF0,
-        raw: false,
-        quiet: false,
-        json: false,
-        from: 0,
-        to: 0,
-        named: false,
-        next: 0,
-        wrong: complaint::NOTHING,
+// An option.
+#[derive(Clone, Copy)]
+enum Switch {
+    Lamps,
+    Setup,
+    Thresholds,
+    Raw,
+    Quiet,
+    Json,
+}
+
+// What the next word is: an option or the file, or the value of an option before it. (A value is a word like any other, and the complaint
+// about a missing one goes by what stood before it: to take it behind its option would be no plainer.)
+#[derive(Clone, Copy, PartialEq, Eq)]
+enum Next {
+    Any,
+    Lamps,
+    Setup,
+    Cycle,
+    Low,
+    High,
+}
+
+// What the words up to one said.
+#[derive(Clone, Copy)]
+struct Reading<'a> {
+    subcommand: Subcommand,
+    next: Next,
+    lamps: Option<u32>,
+    file: Option<&'a [u8]>,
+    setup: u8,
+    cycle: u8,
+    low: u8,
+    high: u8,
+    raw: bool,
+    quiet: bool,
+    json: bool,
+}
+
+// The option that a word is, of those that a subcommand takes. Board takes the first four, dump the last two.
+fn switch_of(subcommand: Subcommand, word: &[u8]) -> Option<Switch> {
+    let board = subcommand == Subcommand::Board;
+    let dump = subcommand == Subcommand::Dump;
+    match word {
+        b"--lamps" if !dump => Some(Switch::Lamps),
+        b"--setup" if !dump => Some(Switch::Setup),
+        b"--thresholds" if !dump => Some(Switch::Thresholds),
+        b"--raw" if !dump => Some(Switch::Raw),
+        b"--quiet" if !board => Some(Switch::Quiet),
+        b"--json" if !board => Some(Switch::Json),
+        _ => None,
     }
-}
-
-fn with_wrong(o: Options, wrong: u8) -> Options {
-    let mut p = o;
-    p.wrong = wrong;
-    p
-}
-
-fn with_next(o: Options, next: u8) -> Options {
-    let mut p = o;
-    p.next = next;
-    p
-}
-
-// Which option a word is, of those that a subcommand takes; 6 where it is none. Board takes the first four, dump the last two.
-fn option_of(subcommand: u8, word: &[u8]) -> usize {
-    let k = text::line_in(
-        b"--lamps\n--setup\n--thresholds\n--raw\n--quiet\n--json\n",
-        word,
-    );
-    if bits::and(subcommand == complaint::BOARD, 3 < k) {
-        return 6;
-    }
-    if bits::and(subcommand == complaint::DUMP, k < 4) {
-        return 6;
-    }
-    k
 }
 
 // The complaint about an option that a subcommand does not take.
-fn options_expected(subcommand: u8) -> u8 {
-    if subcommand == complaint::BOARD {
-        return complaint::BOARD_OPTION_EXPECTED;
+fn option_expected(subcommand: Subcommand) -> WrongOption {
+    match subcommand {
+        Subcommand::Board => WrongOption::BoardOptionExpected,
+        Subcommand::Dump => WrongOption::DumpOptionExpected,
+        _ => WrongOption::OptionExpected,
     }
-    if subcommand == complaint::DUMP {
-        return complaint::DUMP_OPTION_EXPECTED;
-    }
-    complaint::OPTION_EXPECTED
-}
-
-// The words that stand alone.
-fn with_option(o: Options, subcommand: u8, word: &[u8]) -> Options {
-    let mut p = o;
-    let k = option_of(subcommand, word);
-    match k {
-        0 => with_next(o, 1),
-        1 => with_next(o, 2),
-        2 => with_next(o, 3),
-        3 => {
-            p.raw = true;
-            p
-        }
-        4 => {
-            p.quiet = true;
-            p
-        }
-        5 => {
-            p.json = true;
-            p
-        }
-        _ => with_wrong(o, options_expected(subcommand)),
-    }
-}
-
-// Whether a word is an option: two hyphens in front.
-fn is_option(word: &[u8]) -> bool {
-    bits::and(
-        text::byte_at(word, 0) == b'-',
-        text::byte_at(word, 1) == b'-',
-    )
-}
-
-fn with_file(o: Options, from: usize, to: usize) -> Options {
-    if o.named {
-        return with_wrong(o, complaint::ONE_FILE);
-    }
-    let mut p = o;
-    p.from = from;
-    p.to = to;
-    p.named = true;
-    p
-}
-
-fn with_lamps(o: Options, word: &[u8]) -> Options {
-    let n = text::reading::decimal_of(word);
-    let Number::Value(lamps) = n else {
-        return with_wrong(o, complaint::LAMPS_EXPECTED);
-    };
-    let mut p = o;
-    p.lamps = lamps;
-    p.counted = true;
-    p.next = 0;
-    p
 }
 
 // The complaint about a value that is missing or wrong.
-fn expected(next: u8) -> u8 {
+fn value_expected(next: Next) -> WrongOption {
     match next {
-        1 => complaint::LAMPS_EXPECTED,
-        2 => complaint::SETUP_EXPECTED,
-        _ => complaint::THRESHOLDS_EXPECTED,
+        Next::Lamps => WrongOption::LampsExpected,
+        Next::Setup => WrongOption::SetupExpected,
+        _ => WrongOption::ThresholdsExpected,
     }
 }
 
-// A byte: the setup, or the next of the three thresholds.
-fn with_byte(o: Options, word: &[u8]) -> Options {
-    let n = text::reading::byte_of(word);
-    let Number::Value(value) = n else {
-        return with_wrong(o, expected(o.next));
-    };
-    let b = (value % 256) as u8;
-    let mut p = o;
-    let next = o.next;
-    match next {
-        2 => {
-            p.setup = b;
-            p.next = 0;
-        }
-        3 => {
-            p.cycle = b;
-            p.next = 4;
-        }
-        4 => {
-            p.low = b;
-            p.next = 5;
-        }
-        _ => {
-            p.high = b;
-            p.next = 0;
+impl<'a> Reading<'a> {
+    // Before the first word: setup and thresholds of the paper.
+    fn of(subcommand: Subcommand) -> Reading<'a> {
+        Reading {
+            subcommand,
+            next: Next::Any,
+            lamps: None,
+            file: None,
+            setup: 0x13,
+            cycle: 0x03,
+            low: 0xE6,
+            high: 0xF0,
+            raw: false,
+            quiet: false,
+            json: false,
         }
     }
-    p
-}
 
-// A word more, which stands at `from` up to `to`.
-fn with_word(o: Options, subcommand: u8, word: &[u8], from: usize, to: usize) -> Options {
-    if o.wrong != complaint::NOTHING {
-        return o;
+    // Takes an option.
+    fn take_switch(&mut self, switch: Switch) {
+        match switch {
+            Switch::Lamps => self.next = Next::Lamps,
+            Switch::Setup => self.next = Next::Setup,
+            Switch::Thresholds => self.next = Next::Cycle,
+            Switch::Raw => self.raw = true,
+            Switch::Quiet => self.quiet = true,
+            Switch::Json => self.json = true,
+        }
     }
-    let next = o.next;
-    match next {
-        0 => {
-            if is_option(word) {
-                return with_option(o, subcommand, word);
+
+    // Takes an option or the file. An option has two hyphens in front.
+    fn take_any(&mut self, word: &'a [u8]) -> Result<(), WrongOption> {
+        if word.starts_with(b"--") {
+            let expected = option_expected(self.subcommand);
+            self.take_switch(switch_of(self.subcommand, word).ok_or(expected)?);
+            return Ok(());
+        }
+        if self.file.is_some() {
+            return Err(WrongOption::OneFile);
+        }
+        self.file = Some(word);
+        Ok(())
+    }
+
+    // Takes a byte: the setup, or the next of the three thresholds.
+    fn take_byte(&mut self, b: u8) {
+        match self.next {
+            Next::Setup => {
+                self.setup = b;
+                self.next = Next::Any;
             }
-            with_file(o, from, to)
-        }
-        1 => with_lamps(o, word),
-        _ => with_byte(o, word),
-    }
-}
-
-// What is wrong once all words were taken: what is still missing. Dump has no lamps.
-fn missing(o: Options, subcommand: u8) -> u8 {
-    if o.wrong != complaint::NOTHING {
-        return o.wrong;
-    }
-    if o.next != 0 {
-        return expected(o.next);
-    }
-    if !bits::or(o.counted, subcommand == complaint::DUMP) {
-        return complaint::LAMPS_MISSING;
-    }
-    if o.named {
-        complaint::NOTHING
-    } else {
-        complaint::FILE_EXPECTED
-    }
-}
-
-// The options of a subcommand in words that are separated by a byte 0.
-pub fn options_of(line: &[u8], subcommand: u8) -> Options {
-    let n = line.len();
-    let mut o = no_words();
-    let mut at = 0;
-    while at < n {
-        let end = text::find(line, at, n, 0);
-        o = with_word(o, subcommand, &line[at..end], at, end);
-        at = end + 1;
-    }
-    with_wrong(o, missing(o, subcommand))
-}
-
-// What is read: a file that was opened, or standard input.
-#[derive(Drop)]
-pub enum Opened<F, S> {
-    Named(F),
-    Standard(S),
-}
-
-impl<F: Read, S: Read> Read for Opened<F, S> {
-    fn read(&mut self, buf: &mut [u8]) -> Result<usize, Error> {
-        match self {
-            Opened::Named(file) => file.read(buf),
-            Opened::Standard(input) => input.read(buf),
+            Next::Cycle => {
+                self.cycle = b;
+                self.next = Next::Low;
+            }
+            Next::Low => {
+                self.low = b;
+                self.next = Next::High;
+            }
+            _ => {
+                self.high = b;
+                self.next = Next::Any;
+            }
         }
     }
+
+    // Takes the value of an option.
+    fn take_value(&mut self, word: &[u8]) -> Result<(), WrongOption> {
+        let expected = value_expected(self.next);
+        if self.next == Next::Lamps {
+            self.lamps = Some(decimal_of(word).ok_or(expected)?);
+            self.next = Next::Any;
+            return Ok(());
+        }
+        self.take_byte(byte_of(word).ok_or(expected)?);
+        Ok(())
+    }
+
+    // Takes a word.
+    fn take(&mut self, word: &'a [u8]) -> Result<(), WrongOption> {
+        if self.next == Next::Any {
+            self.take_any(word)
+        } else {
+            self.take_value(word)
+        }
+    }
+
+    // How many lamps there are. Dump has none.
+    fn lamps_said(&self) -> Result<u32, WrongOption> {
+        if self.subcommand == Subcommand::Dump {
+            return Ok(0);
+        }
+        self.lamps.ok_or(WrongOption::LampsMissing)
+    }
+
+    // What was said once all words were taken, or what is still missing.
+    fn end(self) -> Result<Options<'a>, WrongOption> {
+        if self.next != Next::Any {
+            return Err(value_expected(self.next));
+        }
+        let lamps = self.lamps_said()?;
+        let file = self.file.ok_or(WrongOption::FileExpected)?;
+        Ok(Options {
+            file,
+            lamps,
+            setup: self.setup,
+            cycle: self.cycle,
+            low: self.low,
+            high: self.high,
+            raw: self.raw,
+            quiet: self.quiet,
+            json: self.json,
+        })
+    }
 }
 
-// The system's number for bytes that are no text: a name has to be UTF-8.
-const NO_TEXT: i32 = 84;
-
-// Opens the file that they name, or answers the number of the error; - is standard input.
-pub fn open_file<R: Files + Input>(rt: &R, name: &[u8]) -> Result<Opened<R::File, R::Reader>, i32> {
-    if name == b"-".as_slice() {
-        return Ok(Opened::Standard(rt.reader()));
+// The options of a subcommand in words that are separated by a byte 0, or what is wrong with them.
+pub fn options_of(line: &[u8], subcommand: Subcommand) -> Result<Options<'_>, WrongOption> {
+    let mut reading = Reading::of(subcommand);
+    for piece in line.split_inclusive(|b| *b == 0) {
+        reading.take(text::first(piece, text::find(piece, 0, piece.len(), 0)))?;
     }
-    let Ok(path) = str::from_utf8(name) else {
-        return Err(NO_TEXT);
-    };
-    match File::open(rt, path) {
-        Ok(file) => Ok(Opened::Named(file)),
-        Err(e) => Err(text::number_of(&e)),
-    }
+    reading.end()
 }

@@ -18,8 +18,6 @@ use Rattle.rules.specs.Chain.{Chain}
 use Rattle.chain.specs.Record.{length_for}
 use Rattle.chain.specs.Memory.{silent, lamp_read}
 use Rattle.reader.specs.Interface.{packed}
-use Rattle.osp.specs.declared.Directed.{Directed}
-use Rattle.osp.specs.declared.Directed.TheVariants.{To, OutOfRange}
 
 -- `osp_read` writes the address (2), command, payload size, payload.
 abbrev pub read_bytes : List ℕ → Telegram → List ℕ
@@ -55,11 +53,6 @@ directing kind value =
     (cond (eqb kind 1) (refuse (not (leb 1 value && leb value 0x3EF)) 10 (done (One (record { 0 = value }))))
     (cond (eqb kind 2) (refuse (not (leb value 14)) 10 (done (Group value)))
     (refused 10)))
-
--- The code's answer: to a cast, or out of range, which is 10.
-abbrev pub directed_as : Directed → Outcome Cast
-directed_as (To cast) = done cast
-directed_as OutOfRange = refused 10
 
 -- The command builder for a cast in two numbers: 10, 7, 9.
 unfoldable pub building_directed : Message → ℕ → ℕ → ℕ → Outcome (List ℕ)

@@ -1,9 +1,9 @@
-// A cast in two numbers, its kind and its value, there and back.
+// A cast in two numbers, its kind and its value, there and back: so the C interface has it.
 ghost use Rattle.std.specs.Prelude.{◌≡◌};
+ghost use Rattle.telegram.specs.Numbers.{outcome_or};
 ghost use Rattle.table.specs.Casts.{cast_kind, cast_value};
-ghost use Rattle.osp.specs.Interface.{directing, directed_as};
+ghost use Rattle.osp.specs.Interface.{directing};
 
-use crate::Directed;
 use table::Cast;
 use telegram::Address;
 
@@ -31,22 +31,13 @@ pub(crate) fn value_of(cast: Cast) -> u16
 
 // A cast from its two numbers.
 #[tactic(auto, unfolding(crate::specs::Interface::directing))]
-pub(crate) fn cast_from(kind: u32, value: u32) -> Directed
-    ensures { directed_as result ≡ directing kind value }
+pub(crate) fn cast_from(kind: u32, value: u32) -> Option<Cast>
+    ensures { outcome_or 10 result ≡ directing kind value }
 {
-    match kind {
-        0 => match value {
-            0 => Directed::To(Cast::Everyone),
-            _ => Directed::OutOfRange,
-        },
-        1 => match value {
-            0x001..=0x3EF => Directed::To(Cast::One(Address(value as u16))),
-            _ => Directed::OutOfRange,
-        },
-        2 => match value {
-            0..=14 => Directed::To(Cast::Group(value as u8)),
-            _ => Directed::OutOfRange,
-        },
-        _ => Directed::OutOfRange,
+    match (kind, value) {
+        (0, 0) => Some(Cast::Everyone),
+        (1, 0x001..=0x3EF) => Some(Cast::One(Address(value as u16))),
+        (2, 0..=14) => Some(Cast::Group(value as u8)),
+        _ => None,
     }
 }

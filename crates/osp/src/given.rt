@@ -42,12 +42,9 @@ pub(crate) fn give_telegram(s: &[u8], t: Telegram, out: &mut [u8]) -> u32
     ensures value { result ≡ returned (fitted (length out.old) (read_bytes s.now t)) }
     ensures out_after { out.new ≡ leaves (fitted (length out.old) (read_bytes s.now t)) out.old }
 {
-    let address = t.address;
-    let a = address.0;
-    let size = t.size;
-    let head = [bits::high(a), bits::low(a), t.command, size_byte(size)];
-    let end = 3 + size;
-    give(&head, &s[3..end], out)
+    let a = t.address.0;
+    let head = [bits::high(a), bits::low(a), t.command, size_byte(t.size)];
+    give(&head, &s[3..3 + t.size], out)
 }
 
 // Gives a dissected command.
@@ -55,20 +52,16 @@ pub(crate) fn give_command(d: Dissected, out: &mut [u8]) -> u32
     ensures value { result ≡ returned (fitted (length out.old) (sent_bytes (sent_as d))) }
     ensures out_after { out.new ≡ leaves (fitted (length out.old) (sent_bytes (sent_as d))) out.old }
 {
-    let command = d.command;
-    let parts = command::command_parts(command);
-    let cast = d.cast;
-    let value = value_of(cast);
-    let size = parts.size;
-    let bytes = parts.bytes;
+    let parts = command::command_parts(d.command);
+    let value = value_of(d.cast);
     let head = [
         parts.number,
-        kind_of(cast),
+        kind_of(d.cast),
         bits::high(value),
         bits::low(value),
-        size_byte(size),
+        size_byte(parts.size),
     ];
-    give(&head, &bytes[..size], out)
+    give(&head, parts.payload(), out)
 }
 
 // Gives a dissected answer.
@@ -76,30 +69,28 @@ pub(crate) fn give_answer(d: Answered, out: &mut [u8]) -> u32
     ensures value { result ≡ returned (fitted (length out.old) (reply_bytes (reply_of d))) }
     ensures out_after { out.new ≡ leaves (fitted (length out.old) (reply_bytes (reply_of d))) out.old }
 {
-    let answer = d.answer;
-    let parts = answer::answer_parts(answer);
-    let address = d.address;
-    let a = address.0;
-    let size = parts.size;
-    let bytes = parts.bytes;
-    let head = [parts.number, bits::high(a), bits::low(a), size_byte(size)];
-    give(&head, &bytes[..size], out)
+    let parts = answer::answer_parts(d.answer);
+    let a = d.address.0;
+    let head = [
+        parts.number,
+        bits::high(a),
+        bits::low(a),
+        size_byte(parts.size),
+    ];
+    give(&head, parts.payload(), out)
 }
 
 // The bytes of a lamp before its PWM bytes.
 fn lamp_head(l: Lamp) -> [u8; 12]
     ensures { result ≡ lamp_head l }
 {
-    let a = l.address;
-    let state = l.state;
-    let flags = l.flags;
     let t = l.thresholds;
     [
-        bits::high(a.0),
-        bits::low(a.0),
-        lamp::state_number(state),
+        bits::high(l.address.0),
+        bits::low(l.address.0),
+        lamp::state_number(l.state),
         lamp::bit_number(l.direction),
-        lamp::status_byte(State::Uninitialized, false, flags),
+        lamp::status_byte(State::Uninitialized, false, l.flags),
         l.temperature,
         t.cycle,
         t.low,

@@ -1,4 +1,4 @@
-// The functions on single telegrams: checksum, reader, dissectors, builders.
+// The functions on single telegrams: checksum, reader, dissectors, builders. A refusal is its number, as C has it.
 ghost use Rattle.std.specs.Prelude.{◌≡◌, ◌%◌, ◌≤◌, length};
 ghost use Rattle.checksum.specs.Checksum.{checksum_of};
 ghost use Rattle.telegram.specs.Numbers.{leaves};
@@ -8,13 +8,11 @@ ghost use Rattle.command.specs.Commands.{message_of};
 ghost use Rattle.reader.specs.Interface.{returned};
 ghost use Rattle.osp.specs.Interface.{osp_read, osp_dissect, osp_dissect_answer, building_directed, osp_build_command, osp_build_pwm};
 
-use crate::Directed;
 use crate::casts::cast_from;
 use crate::given::{give_answer, give_command, give_telegram};
-use crate::returned::{built_returned, refusal_returned};
-use answer::AnswerDissection;
-use command::{Command, Composed, Dissection, Pwm};
-use telegram::{Address, Read};
+use crate::returned::count_returned;
+use command::{Command, Pwm};
+use telegram::Address;
 
 // The checksum of the bytes of `s`.
 pub fn osp_checksum(s: &[u8]) -> u8
@@ -24,38 +22,38 @@ pub fn osp_checksum(s: &[u8]) -> u8
 }
 
 // The telegram reader: 1 to 5, then 9.
+#[tactic(auto, unfolding(crate::specs::Interface::osp_read))]
 pub fn osp_read(s: &[u8], out: &mut [u8]) -> u32
     ensures value { result ≡ returned (osp_read s.now (length out.old)) }
     ensures out_after { out.new ≡ leaves (osp_read s.now (length out.old)) out.old }
 {
-    let r = telegram::read_telegram(s);
-    let Read::Accepted(t) = r else {
-        return refusal_returned(telegram::refusal_of(r));
-    };
-    give_telegram(s, t, out)
+    match telegram::read_telegram(s) {
+        Ok(t) => give_telegram(s, t, out),
+        Err(e) => telegram::refusal_value(e),
+    }
 }
 
 // The command dissector: 1 to 8, then 9.
+#[tactic(auto, unfolding(crate::specs::Interface::osp_dissect))]
 pub fn osp_dissect(s: &[u8], out: &mut [u8]) -> u32
     ensures value { result ≡ returned (osp_dissect s.now (length out.old)) }
     ensures out_after { out.new ≡ leaves (osp_dissect s.now (length out.old)) out.old }
 {
-    let r = command::dissect(s);
-    match r {
-        Dissection::Accepted(d) => give_command(d, out),
-        Dissection::Refused(e) => refusal_returned(e),
+    match command::dissect(s) {
+        Ok(d) => give_command(d, out),
+        Err(e) => telegram::refusal_value(e),
     }
 }
 
 // The answer dissector: 1 to 8, then 9.
+#[tactic(auto, unfolding(crate::specs::Interface::osp_dissect_answer))]
 pub fn osp_dissect_answer(s: &[u8], out: &mut [u8]) -> u32
     ensures value { result ≡ returned (osp_dissect_answer s.now (length out.old)) }
     ensures out_after { out.new ≡ leaves (osp_dissect_answer s.now (length out.old)) out.old }
 {
-    let r = answer::dissect_answer(s);
-    match r {
-        AnswerDissection::Accepted(a) => give_answer(a, out),
-        AnswerDissection::Refused(e) => refusal_returned(e),
+    match answer::dissect_answer(s) {
+        Ok(a) => give_answer(a, out),
+        Err(e) => telegram::refusal_value(e),
     }
 }
 
@@ -65,30 +63,26 @@ pub fn osp_build(address: u32, command: u32, payload: &[u8], out: &mut [u8]) -> 
     ensures value { result ≡ returned (building address command payload.now (length out.old)) }
     ensures out_after { out.new ≡ leaves (building address command payload.now (length out.old)) out.old }
 {
-    if 1023 < address {
+    if 1023 < address || 127 < command {
         return 10;
     }
-    if 127 < command {
-        return 10;
-    }
-    let r = telegram::build_telegram(Address(address as u16), command as u8, payload, out);
-    built_returned(r)
+    count_returned(telegram::build_telegram(Address(address as u16), command as u8, payload, out))
 }
 
 // Builds a command for a cast in two numbers: 10, 7, 9.
+#[tactic(auto, unfolding(crate::specs::Interface::building_directed))]
 fn build_directed(c: Command, kind: u32, value: u32, out: &mut [u8]) -> u32
     ensures value { result ≡ returned (building_directed (message_of c) kind value (length out.old)) }
     ensures out_after { out.new ≡ leaves (building_directed (message_of c) kind value (length out.old)) out.old }
 {
-    let to = cast_from(kind, value);
-    let Directed::To(cast) = to else {
+    let Some(cast) = cast_from(kind, value) else {
         return 10;
     };
-    let r = command::build_command(c, cast, out);
-    built_returned(r)
+    count_returned(command::build_command(c, cast, out))
 }
 
 // The command builder, of a command's number, its cast in two numbers and the bytes of its payload: 6, 8, then 10, 7, 9.
+#[tactic(auto, unfolding(crate::specs::Interface::osp_build_command))]
 pub fn osp_build_command(command: u32, cast: u32, value: u32, payload: &[u8], out: &mut [u8]) -> u32
     ensures value { result ≡ returned (osp_build_command command cast value payload.now (length out.old)) }
     ensures out_after { out.new ≡ leaves (osp_build_command command cast value payload.now (length out.old)) out.old }
@@ -96,10 +90,9 @@ pub fn osp_build_command(command: u32, cast: u32, value: u32, payload: &[u8], ou
     if 127 < command {
         return 6;
     }
-    let composed = command::compose(command as u8, payload);
-    match composed {
-        Composed::Accepted(c) => build_directed(c, cast, value, out),
-        Composed::Refused(e) => refusal_returned(e),
+    match command::compose(command as u8, payload) {
+        Ok(c) => build_directed(c, cast, value, out),
+        Err(e) => telegram::refusal_value(e),
     }
 }
 
@@ -128,24 +121,14 @@ pub fn osp_build_pwm(
     ensures value { result ≡ returned (osp_build_pwm cast value modes red green blue (length out.old)) }
     ensures out_after { out.new ≡ leaves (osp_build_pwm cast value modes red green blue (length out.old)) out.old }
 {
-    if 7 < modes {
-        return 10;
-    }
-    if 32767 < red {
-        return 10;
-    }
-    if 32767 < green {
-        return 10;
-    }
-    if 32767 < blue {
+    if 7 < modes || 32767 < red || 32767 < green || 32767 < blue {
         return 10;
     }
     let r = pwm_of_mode(modes / 4, red);
     let g = pwm_of_mode(modes / 2, green);
     let b = pwm_of_mode(modes, blue);
-    let to = cast_from(cast, value);
-    let Directed::To(cast) = to else {
+    let Some(cast) = cast_from(cast, value) else {
         return 10;
     };
-    built_returned(command::build_pwm(r, g, b, cast, out))
+    count_returned(command::build_pwm(r, g, b, cast, out))
 }

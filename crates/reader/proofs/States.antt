@@ -1,10 +1,9 @@
 -- The state that memory holds: a law for each answer. Assumes nothing.
-use Rattle.std.proofs.Common.{◌≡◌, ℕ, ◌<◌, ◌≤◌, Bool, not, ltb, List, length, get_or, sym, refl, ap, ◌∙◌, ltb-false, le-ltb, lt-ltb, ne_eqb}
-use Rattle.telegram.specs.Numbers.{Outcome, refused, done, refuse, after}
+use Rattle.std.proofs.Common.{◌≡◌, ℕ, ◌<◌, ◌≤◌, ltb, List, length, get_or, refl, ltb-false, le-ltb, lt-ltb, ne_eqb}
+use Rattle.telegram.specs.Numbers.{Outcome, refused, done, after}
 use Rattle.telegram.proofs.Outcomes.{passed}
-use Rattle.capture.specs.State.{Standing, State, state_of}
-use Rattle.reader.specs.Layout.{standing_in, stands_in, count_in, position_in, carried_bytes, state_in, held_as}
-use Rattle.reader.specs.declared.Held.{Held}
+use Rattle.capture.specs.State.{Standing, State}
+use Rattle.reader.specs.Layout.{standing_in, stands_in, count_in, position_in, carried_bytes, state_in}
 
 -- The state with the standing that its first two bytes say.
 abbrev pub standing_state : List ℕ → Standing → State
@@ -25,11 +24,6 @@ module _ (mem : List ℕ) (h : 21 ≤ length mem) where
 pub state-long : (mem : List ℕ) (s : State) → state_in mem ≡ done s → 21 ≤ length mem
 unfolding state_in
 state-long mem s e = ltb-false _ _ (passed (ltb (length mem) 21) 11 _ e).0
-
--- What was read out of memory, by whether it is a state.
-pub held-by : (mem : List ℕ) (h : Held) (v : Bool) → held_as h ≡ state_in mem → h.valid ≡ v
-    → state_in mem ≡ refuse (not v) 11 (done (state_of h.reading))
-held-by mem h v e q = sym e ∙ ap (λ (x : Bool). refuse (not x) 11 (done (state_of h.reading))) q
 
 -- A first byte that is none of 0 to 2.
 pub no-standing : (p v x y : ℕ) → (p ≡ 0 → ⊥) → (p ≡ 1 → ⊥) → (p ≡ 2 → ⊥) → refused 11 ≡ standing_in p v x y

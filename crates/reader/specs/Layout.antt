@@ -1,10 +1,10 @@
 -- Request 01 for C callers: how the state of a reading lies in lent memory. docs/RECORD.md has the table.
 -- Assumes nothing.
-use Rattle.std.specs.Prelude.{ℕ, ◌+◌, ◌*◌, ◌/◌, ◌%◌, cond, not, ◌&&◌, List, [], ◌∷◌, ◌++◌, length, take, drop, replicate, ◌==◌, nat_le, nat_lt, slice_index}
-use Rattle.telegram.specs.Numbers.{Reason, bare, Outcome, done, refuse, after, wrong_checksum, front}
+use Rattle.std.specs.Prelude.{ℕ, ◌+◌, ◌*◌, ◌/◌, ◌%◌, cond, not, ◌&&◌, Option, Some, None, List, [], ◌∷◌, ◌++◌, length, take, drop, replicate, ◌==◌, nat_le, nat_lt, slice_index}
+use Rattle.telegram.specs.Numbers.{Reason, bare, Outcome, refused, done, refuse, after, wrong_checksum, front}
+use Rattle.capture.specs.declared.Phase.{Phase}
+use Rattle.capture.specs.declared.Reading.{Reading}
 use Rattle.capture.specs.State.{Standing, going, ended, stopped_for, checksums_in, standing_of, State, state_of}
-use Rattle.reader.specs.declared.found.Begun.{Begun}
-use Rattle.reader.specs.declared.Held.{Held}
 
 -- How many bytes the state has.
 abbrev pub reader_size : ℕ
@@ -83,9 +83,11 @@ abbrev pub holding : State → List ℕ → List ℕ
 holding s mem = front (state_bytes s) mem
 
 -- How a reading stands, as the code read it: 11 where the bytes do not say it.
-abbrev pub begun_as : Begun → Outcome Standing
-begun_as b = refuse (not b.valid) 11 (done (standing_of b.phase))
+abbrev pub begun_as : Option Phase → Outcome Standing
+begun_as (Some k) = done (standing_of k)
+begun_as None = refused 11
 
 -- What was read out of memory: a state, or that there is none, which is 11.
-abbrev pub held_as : Held → Outcome State
-held_as h = refuse (not h.valid) 11 (done (state_of h.reading))
+abbrev pub held_as : Option Reading → Outcome State
+held_as (Some r) = done (state_of r)
+held_as None = refused 11

@@ -4,55 +4,32 @@ ghost use Rattle.telegram.specs.Numbers.{refused, refuse, done, checksums_as};
 ghost use Rattle.capture.specs.State.{stopped_for, checksums_in, standing_of};
 ghost use Rattle.reader.specs.Layout.{reader_size, begun_as, reason_in, standing_in, count_in, position_in, carried_bytes, held_as, state_in};
 
-use crate::Held;
 use capture::{Phase, Reading};
 use telegram::{Checksums, Refusal};
 
-// How a reading stands, if the first two bytes say it.
-#[derive(Clone, Copy)]
-pub(crate) struct Begun {
-    pub valid: bool,
-    pub phase: Phase,
-}
-
-fn stands(phase: Phase) -> Begun
-    ensures { begun_as result ≡ done (standing_of phase) }
-{
-    Begun { valid: true, phase }
-}
-
-fn stands_not() -> Begun
-    ensures { begun_as result ≡ refused 11 }
-{
-    Begun {
-        valid: false,
-        phase: Phase::Open,
-    }
-}
-
 // A reading that was stopped, by the refusal's number and the two checksums of 5.
-fn stopped_by(number: u8, computed: u8, received: u8) -> Begun
+fn stopped_by(number: u8, computed: u8, received: u8) -> Option<Phase>
     ensures { begun_as result ≡ refuse (not (nat_le 1 number && nat_le number 5)) 11 (done (stopped_for (reason_in number computed received))) }
 {
     match number {
-        1 => stands(Phase::Stopped(Refusal::TooShort)),
-        2 => stands(Phase::Stopped(Refusal::Preamble)),
-        3 => stands(Phase::Stopped(Refusal::SizeIndex)),
-        4 => stands(Phase::Stopped(Refusal::ByteCount)),
-        5 => stands(Phase::Stopped(Refusal::Checksum(computed, received))),
-        _ => stands_not(),
+        1 => Some(Phase::Stopped(Refusal::TooShort)),
+        2 => Some(Phase::Stopped(Refusal::Preamble)),
+        3 => Some(Phase::Stopped(Refusal::SizeIndex)),
+        4 => Some(Phase::Stopped(Refusal::ByteCount)),
+        5 => Some(Phase::Stopped(Refusal::Checksum(computed, received))),
+        _ => None,
     }
 }
 
 // How a reading stands, by the first two bytes, and where 5 stopped it by the two checksums.
-fn standing_in(phase: u8, value: u8, computed: u8, received: u8) -> Begun
+fn standing_in(phase: u8, value: u8, computed: u8, received: u8) -> Option<Phase>
     ensures { begun_as result ≡ standing_in phase value computed received }
 {
     match phase {
-        0 => stands(Phase::Open),
-        1 => stands(Phase::Ended),
+        0 => Some(Phase::Open),
+        1 => Some(Phase::Ended),
         2 => stopped_by(value, computed, received),
-        _ => stands_not(),
+        _ => None,
     }
 }
 
@@ -61,8 +38,7 @@ fn count_in(phase: Phase, value: u8) -> usize
     ensures { result ≡ count_in (standing_of phase) value }
 {
     match phase {
-        Phase::Open => value as usize,
-        Phase::Ended => value as usize,
+        Phase::Open | Phase::Ended => value as usize,
         Phase::Stopped(_) => 0,
     }
 }
@@ -72,20 +48,17 @@ pub(crate) fn position_in(mem: &[u8]) -> u64
     requires { reader_size ≤ length mem.now }
     ensures { result ≡ position_in mem.now }
 {
-    let a = bits::word(mem[2], mem[3]) as u64;
-    let b = bits::word(mem[4], mem[5]) as u64;
-    let c = bits::word(mem[6], mem[7]) as u64;
-    let d = bits::word(mem[8], mem[9]) as u64;
-    ((a * 65536 + b) * 65536 + c) * 65536 + d
+    u64::from_be_bytes([
+        mem[2], mem[3], mem[4], mem[5], mem[6], mem[7], mem[8], mem[9],
+    ])
 }
 
 // The checksums that a reading holds.
-pub(crate) fn sums_of(phase: Phase) -> Checksums
+pub(crate) fn sums_of(phase: Phase) -> Option<Checksums>
     ensures { checksums_as result ≡ checksums_in (standing_of phase) }
 {
     match phase {
-        Phase::Open => Checksums::None,
-        Phase::Ended => Checksums::None,
+        Phase::Open | Phase::Ended => None,
         Phase::Stopped(e) => telegram::checksums_of(e),
     }
 }
@@ -106,80 +79,57 @@ fn carried_in(phase: Phase, mem: &[u8]) -> [u8; 12]
     ensures { result ≡ carried_bytes (standing_of phase) mem.now }
 {
     let mut bytes = last_in(mem);
-    let sums = sums_of(phase);
-    match sums {
-        Checksums::Both(_, _) => {
-            bytes[0] = 0;
-            bytes[1] = 0;
-        }
-        Checksums::None => {}
+    if sums_of(phase).is_some() {
+        bytes[0] = 0;
+        bytes[1] = 0;
     }
     bytes
 }
 
-fn no_state() -> Held
-    ensures { held_as result ≡ refused 11 }
-{
-    Held {
-        valid: false,
-        reading: capture::resting(Phase::Open, 0),
-    }
-}
-
 // The state in memory whose first byte says open: it holds no checksums, so bytes 10 to 20 are carried as they stand.
-fn open_state(mem: &[u8]) -> Held
+fn open_state(mem: &[u8]) -> Option<Reading>
     requires { (reader_size ≤ length mem.now) × (slice_index mem.now 0 ≡ 0) }
     ensures { held_as result ≡ state_in mem.now }
 {
-    Held {
-        valid: true,
-        reading: Reading {
-            phase: Phase::Open,
-            count: count_in(Phase::Open, mem[1]),
-            position: position_in(mem),
-            bytes: last_in(mem),
-        },
-    }
+    Some(Reading {
+        phase: Phase::Open,
+        count: count_in(Phase::Open, mem[1]),
+        position: position_in(mem),
+        bytes: last_in(mem),
+    })
 }
 
 // The state in memory of 21 bytes or more, whatever its first byte says.
-fn any_state(mem: &[u8]) -> Held
+fn any_state(mem: &[u8]) -> Option<Reading>
     requires { reader_size ≤ length mem.now }
     ensures { held_as result ≡ state_in mem.now }
 {
-    let value = mem[1];
-    let b = standing_in(mem[0], value, mem[10], mem[11]);
-    if !b.valid {
-        return no_state();
-    }
-    let phase = b.phase;
-    Held {
-        valid: true,
-        reading: Reading {
-            phase,
-            count: count_in(phase, value),
-            position: position_in(mem),
-            bytes: carried_in(phase, mem),
-        },
-    }
+    let phase = standing_in(mem[0], mem[1], mem[10], mem[11])?;
+    Some(Reading {
+        phase,
+        count: count_in(phase, mem[1]),
+        position: position_in(mem),
+        bytes: carried_in(phase, mem),
+    })
 }
 
 // The state that memory holds, if it holds one.
-pub(crate) fn read_state(mem: &[u8]) -> Held
+pub(crate) fn read_state(mem: &[u8]) -> Option<Reading>
     ensures { held_as result ≡ state_in mem.now }
 {
     if mem.len() < 21 {
-        return no_state();
+        return None;
     }
     any_state(mem)
 }
 
-// The same for a chunk, where the reader is nearly always open: that case is tested first and stays short (docs/DECISIONS.md).
-pub(crate) fn read_likely_open(mem: &[u8]) -> Held
+// The same for a chunk, where the reader is nearly always open: that case is tested first and stays short. One function for both misses
+// the bar of speed (docs/DECISIONS.md, "The state of an open reader").
+pub(crate) fn read_likely_open(mem: &[u8]) -> Option<Reading>
     ensures { held_as result ≡ state_in mem.now }
 {
     if mem.len() < 21 {
-        return no_state();
+        return None;
     }
     if mem[0] == 0 {
         return open_state(mem);

@@ -6,9 +6,8 @@ ghost use Rattle.reader.specs.Layout.{reader_size, position_in, standing_byte, v
 
 use crate::found::sums_of;
 use capture::{Phase, Reading};
-use telegram::Checksums;
 
-// Byte 0 of a state.
+// Byte 0 of a state, as docs/RECORD.md has it.
 fn standing_byte(phase: Phase) -> u8
     ensures { result ≡ standing_byte (standing_of phase) }
 {
@@ -25,37 +24,16 @@ fn value_byte(phase: Phase, count: usize) -> u8
     ensures { result ≡ value_byte (standing_of phase) count }
 {
     match phase {
-        Phase::Open => count as u8,
-        Phase::Ended => count as u8,
+        Phase::Open | Phase::Ended => count as u8,
         Phase::Stopped(e) => telegram::refusal_number(e),
     }
-}
-
-// A word of a position.
-fn word_of(p: u64) -> u16
-    ensures { result ≡ p % 65536 }
-{
-    (p % 65536) as u16
 }
 
 // The eight bytes of a position.
 pub(crate) fn position_bytes(p: u64) -> [u8; 8]
     ensures { result ≡ position_bytes p }
 {
-    let a = word_of(p / 281474976710656);
-    let b = word_of(p / 4294967296);
-    let c = word_of(p / 65536);
-    let d = word_of(p);
-    [
-        bits::high(a),
-        bits::low(a),
-        bits::high(b),
-        bits::low(b),
-        bits::high(c),
-        bits::low(c),
-        bits::high(d),
-        bits::low(d),
-    ]
+    p.to_be_bytes()
 }
 
 // The first ten bytes of a state.
@@ -63,11 +41,10 @@ fn head_of(r: Reading) -> [u8; 10]
     requires { r.count ≤ 11 }
     ensures { result ≡ state_head (state_of r) }
 {
-    let phase = r.phase;
     let b = position_bytes(r.position);
     [
-        standing_byte(phase),
-        value_byte(phase, r.count),
+        standing_byte(r.phase),
+        value_byte(r.phase, r.count),
         b[0],
         b[1],
         b[2],
@@ -93,15 +70,10 @@ fn write_parts(head: &[u8], rest: &[u8], mem: &mut [u8])
 fn kept_bytes(r: Reading) -> [u8; 12]
     ensures { result ≡ front (checksums_in (standing_of r.phase)) r.bytes }
 {
-    let phase = r.phase;
     let mut bytes = r.bytes;
-    let sums = sums_of(phase);
-    match sums {
-        Checksums::Both(computed, received) => {
-            bytes[0] = computed;
-            bytes[1] = received;
-        }
-        Checksums::None => {}
+    if let Some(sums) = sums_of(r.phase) {
+        bytes[0] = sums.computed;
+        bytes[1] = sums.received;
     }
     bytes
 }
@@ -121,7 +93,6 @@ pub(crate) fn keep_carried(r: Reading, mem: &mut [u8])
     requires { (r.count ≤ 11) × (reader_size ≤ length mem.old) × (standing_of r.phase ≡ going) × (slice_index mem.old 0 ≡ 0) × (position_in mem.old ≡ r.position) }
     ensures { mem.new ≡ holding (state_of r) mem.old }
 {
-    let bytes = r.bytes;
     mem[1] = r.count as u8;
-    mem[10..21].copy_from_slice(&bytes[..11]);
+    mem[10..21].copy_from_slice(&r.bytes[..11]);
 }

@@ -1,5 +1,7 @@
 // The reader of a capture over lent memory: document 02, request 01, as C callers use it. What each function returns is a number of the
 // paper and a count in one.
+// That memory has the 21 bytes of a state stands in the contract of each private function that reads or writes one. `&mut [u8; 21]` would
+// say it in a type, but the definitions and contracts speak of the whole lent slice, behind whose state every byte stays: no plainer.
 #![tactic(auto)]
 
 mod found;
@@ -12,18 +14,11 @@ ghost use Rattle.capture.specs.State.{going, standing_of, state_of};
 ghost use Rattle.reader.specs.Layout.{reader_size, position_in, holding};
 ghost use Rattle.reader.specs.Interface.{returned, kept_by, reader_next, reader_end, reader_position};
 
-use capture::{Next, Reading, Step};
+use capture::{Next, Reading, Reply};
 use found::{read_likely_open, read_state};
 use kept::{keep, keep_carried};
 use passing::{pass, read_whole};
-use telegram::{Read, Refusal};
-
-// A state read out of memory, if it holds one.
-#[derive(Clone, Copy)]
-pub struct Held {
-    pub valid: bool,
-    pub reading: Reading,
-}
+use telegram::Refusal;
 
 // Keeps what a call left, and moves the index.
 fn move_on(n: Next, reader: &mut [u8], at: &mut usize)
@@ -31,9 +26,8 @@ fn move_on(n: Next, reader: &mut [u8], at: &mut usize)
     ensures reader_after { reader.new ≡ holding (state_of n.reading) reader.old }
     ensures at_after { at.new ≡ n.at }
 {
-    let to = n.at;
     keep(n.reading, reader);
-    *at = to;
+    *at = n.at;
 }
 
 // Keeps what is carried where more bytes are needed, and moves the index.
@@ -42,9 +36,8 @@ fn wait(n: Next, reader: &mut [u8], at: &mut usize)
     ensures reader_after { reader.new ≡ holding (state_of n.reading) reader.old }
     ensures at_after { at.new ≡ n.at }
 {
-    let to = n.at;
     keep_carried(n.reading, reader);
-    *at = to;
+    *at = n.at;
 }
 
 // Gives a telegram of so many bytes, where there is room for it, else 9, which leaves everything.
@@ -58,8 +51,7 @@ fn give(n: Next, total: usize, reader: &mut [u8], at: &mut usize, out: &mut [u8]
     if out.len() < total {
         return 9;
     }
-    let bytes = n.bytes;
-    out[..total].copy_from_slice(&bytes[..total]);
+    out[..total].copy_from_slice(&n.bytes[..total]);
     move_on(n, reader, at);
     total as u32 * 256
 }
@@ -71,7 +63,7 @@ fn refuse_kept(e: Refusal, reading: Reading, reader: &mut [u8]) -> u32
     ensures reader_after { reader.new ≡ kept_by (number_of e) (state_of reading) reader.old }
 {
     let value = telegram::refusal_value(e);
-    if telegram::refusal_number(e) == 11 {
+    if matches!(e, Refusal::NoChain) {
         return value;
     }
     keep(reading, reader);
@@ -85,23 +77,21 @@ fn next_carried(reader: &mut [u8], chunk: &[u8], at: &mut usize, out: &mut [u8])
     ensures at_after { at.new ≡ (reader_next reader.old chunk.now at.old (length out.old)).at }
     ensures out_after { out.new ≡ leaves (reader_next reader.old chunk.now at.old (length out.old)).outcome out.old }
 {
-    let held = read_likely_open(reader);
-    if !held.valid {
+    let Some(carried) = read_likely_open(reader) else {
         return 11;
-    }
-    let n = capture::next_at(chunk, held.reading, *at);
-    let step = n.step;
-    match step {
-        Step::Telegram(t) => give(n, 4 + t.size, reader, at, out),
-        Step::More => {
+    };
+    let n = capture::next_at(chunk, carried, *at);
+    match n.answer {
+        Ok(Reply::Telegram(t)) => give(n, 4 + t.size, reader, at, out),
+        Ok(Reply::More) => {
             wait(n, reader, at);
             0
         }
-        Step::Ended => {
+        Ok(Reply::Ended) => {
             move_on(n, reader, at);
             0
         }
-        Step::Refused(e) => refuse_kept(e, n.reading, reader),
+        Err(e) => refuse_kept(e, n.reading, reader),
     }
 }
 
@@ -112,10 +102,9 @@ pub fn next_telegram(reader: &mut [u8], chunk: &[u8], at: &mut usize, out: &mut 
     ensures at_after { at.new ≡ (reader_next reader.old chunk.now at.old (length out.old)).at }
     ensures out_after { out.new ≡ leaves (reader_next reader.old chunk.now at.old (length out.old)).outcome out.old }
 {
-    let r = read_whole(reader, chunk, *at);
-    match r {
-        Read::Accepted(t) => pass(t, chunk, reader, at, out),
-        Read::Refused(_) => next_carried(reader, chunk, at, out),
+    match read_whole(reader, chunk, *at) {
+        Some(t) => pass(t, chunk, reader, at, out),
+        None => next_carried(reader, chunk, at, out),
     }
 }
 
@@ -134,17 +123,13 @@ pub fn end_capture(reader: &mut [u8]) -> u32
     ensures value { result ≡ returned (reader_end reader.old).outcome }
     ensures reader_after { reader.new ≡ (reader_end reader.old).memory }
 {
-    let held = read_state(reader);
-    if !held.valid {
+    let Some(carried) = read_state(reader) else {
         return 11;
-    }
-    let c = capture::end_run(held.reading);
-    let step = c.step;
-    match step {
-        Step::Telegram(_) => keep_done(c.reading, reader),
-        Step::More => keep_done(c.reading, reader),
-        Step::Ended => keep_done(c.reading, reader),
-        Step::Refused(e) => refuse_kept(e, c.reading, reader),
+    };
+    let c = capture::end_run(carried);
+    match c.answer {
+        Ok(_) => keep_done(c.reading, reader),
+        Err(e) => refuse_kept(e, c.reading, reader),
     }
 }
 
@@ -152,13 +137,12 @@ pub fn end_capture(reader: &mut [u8]) -> u32
 pub fn position_of(reader: &[u8]) -> u64
     ensures { result ≡ reader_position reader.now }
 {
-    let held = read_state(reader);
-    if !held.valid {
+    let Some(reading) = read_state(reader) else {
         return 0;
+    };
+    if capture::is_left(reading) {
+        reading.position
+    } else {
+        0
     }
-    let reading = held.reading;
-    if !capture::is_left(reading) {
-        return 0;
-    }
-    reading.position
 }

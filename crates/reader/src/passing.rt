@@ -1,8 +1,8 @@
 // The common case of a reader: nothing is carried, and the next telegram lies whole in the chunk. It is given as it lies there, and only
 // the position moves.
 ghost use Rattle.std.specs.Prelude.{◌≡◌, ◌+◌, ◌≤◌, true, ◌++◌, length, take, drop};
-ghost use Rattle.telegram.specs.Numbers.{done, leaves};
-ghost use Rattle.telegram.specs.Telegram.{read_as, reading};
+ghost use Rattle.telegram.specs.Numbers.{done, leaves, outcome_of};
+ghost use Rattle.telegram.specs.Telegram.{reading};
 ghost use Rattle.telegram.specs.declared.Telegram.{Telegram};
 ghost use Rattle.capture.specs.State.{zeros};
 ghost use Rattle.reader.specs.Layout.{reader_size, position_bytes};
@@ -11,66 +11,47 @@ ghost use Rattle.reader.specs.Interface.{returned, reader_next};
 
 use crate::found::position_in;
 use crate::kept::position_bytes;
-use telegram::{Read, Refusal, Telegram};
+use telegram::Telegram;
 
-// Whether every byte of a slice is zero.
+// Whether every byte of a slice is zero. The fold has no branch, where `all` would stop at the first byte that is not.
 fn all_zero(s: &[u8]) -> bool
     ensures { result ≡ zeros s.now }
 {
-    let mut clear = true;
-    let mut i = 0;
-    while i < s.len() {
-        clear = bits::and(clear, s[i] == 0);
-        i += 1;
-    }
-    clear
+    s.iter().fold(true, |clear, b| clear & (*b == 0))
 }
 
 // Whether memory holds an open reading that carries nothing.
 fn at_rest(reader: &[u8]) -> bool
     ensures { result ≡ true → AtRest reader.now }
 {
-    if reader.len() < 21 {
-        return false;
-    }
-    if reader[0] != 0 {
-        return false;
-    }
-    if reader[1] != 0 {
-        return false;
-    }
-    all_zero(&reader[10..21])
+    21 <= reader.len() && reader[0] == 0 && reader[1] == 0 && all_zero(&reader[10..21])
 }
 
-// The telegram at an index of a chunk, where it lies whole there and the telegram reader accepts it; else some refusal.
-fn read_at(chunk: &[u8], at: usize) -> Read
-    ensures { (t : Telegram) → read_as result ≡ done t → reading (take (4 + t.size) (drop at chunk.now)) ≡ done t }
+// The telegram at an index of a chunk, where it lies whole there and the telegram reader accepts it; else none.
+fn read_at(chunk: &[u8], at: usize) -> Option<Telegram>
+    ensures { (t : Telegram) → result ≡ Some t → reading (take (4 + t.size) (drop at chunk.now)) ≡ done t }
 {
     let n = chunk.len();
-    if n <= at {
-        return Read::Refused(Refusal::TooShort);
-    }
-    let rest = n - at;
-    if rest < 4 {
-        return Read::Refused(Refusal::TooShort);
+    if n <= at || n - at < 4 {
+        return None;
     }
     let index = telegram::index_in(chunk[at + 1], chunk[at + 2]);
     let total = 4 + telegram::size_of(index);
-    if rest < total {
-        return Read::Refused(Refusal::ByteCount);
+    if n - at < total {
+        return None;
     }
-    let end = at + total;
-    telegram::read_telegram(&chunk[at..end])
+    telegram::read_telegram(&chunk[at..at + total]).ok()
 }
 
-// The telegram that is given as it lies in the chunk, where nothing is carried; else some refusal.
-pub(crate) fn read_whole(reader: &[u8], chunk: &[u8], at: usize) -> Read
-    ensures { (t : Telegram) → read_as result ≡ done t → AtRest reader.now × (reading (take (4 + t.size) (drop at chunk.now)) ≡ done t) }
+// The telegram that is given as it lies in the chunk, where nothing is carried; else none.
+pub(crate) fn read_whole(reader: &[u8], chunk: &[u8], at: usize) -> Option<Telegram>
+    ensures { (t : Telegram) → result ≡ Some t → AtRest reader.now × (reading (take (4 + t.size) (drop at chunk.now)) ≡ done t) }
 {
-    if !at_rest(reader) {
-        return Read::Refused(Refusal::TooShort);
+    if at_rest(reader) {
+        read_at(chunk, at)
+    } else {
+        None
     }
-    read_at(chunk, at)
 }
 
 // Puts a position into bytes 2 to 9.
@@ -78,8 +59,7 @@ fn put_position(p: u64, reader: &mut [u8])
     requires { reader_size ≤ length reader.old }
     ensures { reader.new ≡ (take 2 reader.old ++ position_bytes p) ++ drop 10 reader.old }
 {
-    let b = position_bytes(p);
-    reader[2..10].copy_from_slice(&b);
+    reader[2..10].copy_from_slice(&position_bytes(p));
 }
 
 // Gives a telegram of the chunk, where there is room for it, else 9. Nothing was carried, and nothing is.

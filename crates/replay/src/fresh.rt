@@ -1,14 +1,14 @@
 // A fresh chain, as the options say.
-use chain::Delivered;
 use options::Options;
 use rules::{Defaults, Thresholds};
+use telegram::Refusal;
 
 // The memory of a chain: enough for the largest.
 pub(crate) fn chain_memory() -> [u8; 16384] {
     [0; 16384]
 }
 
-fn defaults_of(o: Options) -> Defaults {
+fn defaults_of(o: &Options) -> Defaults {
     Defaults {
         setup: o.setup,
         thresholds: Thresholds {
@@ -19,11 +19,8 @@ fn defaults_of(o: Options) -> Defaults {
     }
 }
 
-// Makes the chain. Answers its refusal, 0 for none.
-pub(crate) fn make(mem: &mut [u8], o: Options) -> u32 {
-    let made = chain::make(mem, o.lamps as usize, defaults_of(o));
-    match made {
-        Delivered::Done(_) => 0,
-        Delivered::Refused(e) => telegram::refusal_value(e),
-    }
+// Makes the chain, or answers its refusal.
+pub(crate) fn make(memory: &mut [u8], o: &Options) -> Result<(), Refusal> {
+    chain::make(memory, o.lamps as usize, defaults_of(o))?;
+    Ok(())
 }

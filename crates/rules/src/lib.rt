@@ -4,11 +4,11 @@
 use telegram::Address;
 
 // Document 01's place: where a lamp stands in the chain. Place 0 is the lamp nearest the host. Not an address.
-#[derive(Clone, Copy)]
+#[derive(Clone, Copy, PartialEq, Eq)]
 pub struct Place(pub usize);
 
 // What a lamp is doing.
-#[derive(Clone, Copy)]
+#[derive(Clone, Copy, PartialEq, Eq)]
 pub enum State {
     Uninitialized,
     Sleep,
@@ -49,7 +49,7 @@ pub struct Defaults {
     pub thresholds: Thresholds,
 }
 
-// A lamp. The direction is COM: false is bidirectional, true is loop.
+// A lamp. The direction is COM, one bit of the status byte as the rules have it: false is bidirectional, true is loop.
 #[derive(Clone, Copy)]
 pub struct Lamp {
     pub address: Address,

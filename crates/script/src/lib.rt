@@ -4,234 +4,94 @@
 
 mod file;
 
-use chain::Delivered;
-pub use file::{carry, do_file, read_more};
-use lines::{Given, Holds, Kind, Line, Style};
+use files::{Output, Stop};
+use lines::{Given, Holds, Line, Style, Telegram, line_at};
 use rules::Place;
 
-// Why a run stopped. What could not be read or written has the number of the error.
-#[derive(Clone, Copy)]
-pub enum Stop {
-    Going,
-    Ended,
-    NoChain,
-    Malformed,
-    Unread(i32),
-    Unwritten(i32),
-}
-
-// How far a run has come: bytes used of the page, lines of the script or bytes of the capture that were done, bytes of the text that were
-// taken, whether the chain refused anything, whether it did a telegram of the capture that may be an answer.
-#[derive(Clone, Copy)]
-pub struct Run {
-    pub at: usize,
-    pub line: u64,
-    pub used: usize,
+// A script, or a capture, that is done on a chain: what is printed of its lines, and the chain's memory; how many lines of the script or
+// bytes of the capture were done, whether the chain refused anything, whether it did a telegram of the capture that may be an answer.
+#[derive(Drop)]
+pub struct Run<'r, 'a, R> {
+    pub output: Output<'r, 'a, R>,
+    pub memory: &'a mut [u8],
+    pub style: Style,
+    pub done: u64,
     pub refused: bool,
     pub either: bool,
-    pub stop: Stop,
-}
-
-// A run at its start, or one that never began.
-pub fn run_of(stop: Stop) -> Run {
-    Run {
-        at: 0,
-        line: 0,
-        used: 0,
-        refused: false,
-        either: false,
-        stop,
-    }
-}
-
-pub fn is_going(stop: Stop) -> bool {
-    match stop {
-        Stop::Going => true,
-        _ => false,
-    }
-}
-
-pub fn stopped(run: Run, stop: Stop) -> Run {
-    Run {
-        at: run.at,
-        line: run.line,
-        used: run.used,
-        refused: run.refused,
-        either: run.either,
-        stop,
-    }
-}
-
-// Writes the page where less than 4 KiB of it are free, more than a line of output takes.
-pub fn flush_full<R: Print>(rt: &R, out: &[u8], run: Run) -> Run {
-    if run.at < 61440 {
-        return run;
-    }
-    flush_page(rt, out, run)
-}
-
-// Writes the page.
-pub fn flush_page<R: Print>(rt: &R, out: &[u8], run: Run) -> Run {
-    match text::flush(rt, out, run.at) {
-        Ok(()) => {
-            let mut next = run;
-            next.at = 0;
-            next
-        }
-        Err(e) => stopped(run, Stop::Unwritten(text::number_of(&e))),
-    }
-}
-
-// A chain's answer in the first bytes of a room, or its refusal.
-fn given_of(d: Delivered, answer: [u8; 16]) -> Given {
-    match d {
-        Delivered::Done(size) => Given {
-            refusal: 0,
-            answer,
-            size,
-        },
-        Delivered::Refused(e) => Given {
-            refusal: telegram::refusal_value(e),
-            answer,
-            size: 0,
-        },
-    }
 }
 
 // Delivers a telegram. Of more than 16 bytes the first 16 are delivered: any of more than 12 is refused for its first three bytes and
 // its count alone, so that the refusal is the same.
-fn deliver(mem: &mut [u8], s: &[u8]) -> Given {
+fn deliver(memory: &mut [u8], s: &[u8]) -> Given {
     let mut room = [0u8; 16];
-    let d = chain::deliver(mem, s, &mut room);
-    given_of(d, room)
+    let count = chain::deliver(memory, s, &mut room)?;
+    if count == 0 {
+        return Ok(None);
+    }
+    Ok(Some(Telegram { room, count }))
 }
 
-// Does what a line says.
-fn act(mem: &mut [u8], line: Line) -> Given {
-    let kind = line.kind;
-    let bytes = line.bytes;
-    match kind {
-        Kind::Sensor => {
-            let place = Place(line.place as usize);
-            let d = chain::sense(mem, place, line.temperature, line.faults);
-            given_of(d, [0; 16])
+// Does what a line says; one that says nothing has no answer.
+fn act(memory: &mut [u8], line: &Line) -> Given {
+    match line {
+        Line::Sent(t) | Line::Captured(t) => deliver(memory, t.bytes()),
+        Line::Sensor(r) => {
+            chain::sense(memory, Place(r.place as usize), r.temperature, r.faults)?;
+            Ok(None)
         }
-        _ => deliver(mem, text::first(&bytes, line.count)),
+        Line::Blank | Line::Malformed => Ok(None),
     }
 }
 
-// The run after a line that left `at` bytes on the page.
-fn gone_on(run: Run, at: usize, refused: bool, either: bool) -> Run {
-    let mut next = run;
-    next.at = at;
-    next.refused = bits::or(run.refused, refused);
-    next.either = bits::or(run.either, either);
-    next
-}
-
-// Does a line that says something.
-fn do_said(line: Line, mem: &mut [u8], out: &mut [u8], style: Style, run: Run, book: &[u8]) -> Run {
-    let given = act(mem, line);
-    let at = lines::put_line(out, run.at, style, run.line, line, given, book);
-    gone_on(run, at, given.refusal != 0, lines::is_either(line, given))
-}
-
-// Does a line.
-fn do_line<R: Print>(
-    rt: &R,
-    line: Line,
-    mem: &mut [u8],
-    out: &mut [u8],
-    style: Style,
-    before: Run,
-    book: &[u8],
-) -> Run {
-    let run = flush_full(rt, out, before);
-    let stop = run.stop;
-    if !is_going(stop) {
-        return run;
-    }
-    let kind = line.kind;
-    match kind {
-        Kind::Malformed => stopped(run, Stop::Malformed),
-        Kind::Blank => run,
-        _ => do_said(line, mem, out, style, run, book),
-    }
-}
-
-// Does the line at an index, if it is whole, or the last one. `used` then says where the next line begins.
-fn do_next<R: Print>(
-    rt: &R,
-    s: &[u8],
-    holds: Holds,
-    mem: &mut [u8],
-    out: &mut [u8],
-    style: Style,
-    run: Run,
-    book: &[u8],
-) -> Run {
-    let line = lines::line_at(s, run.used, holds);
-    if line.next == run.used {
-        return run;
-    }
-    let mut done = do_line(rt, line, mem, out, style, run, book);
-    done.used = line.next;
-    done.line = done.line.wrapping_add(line.step);
-    done
-}
-
-// Does each whole line of a text; `used` then says where the line begins that is not whole.
-pub fn do_lines<R: Print>(
-    rt: &R,
-    s: &[u8],
-    holds: Holds,
-    mem: &mut [u8],
-    out: &mut [u8],
-    style: Style,
-    before: Run,
-    book: &[u8],
-) -> Run {
-    let mut run = before;
-    run.used = 0;
-    let mut left = s.len();
-    while left > 0 {
-        let at = run.used;
-        run = do_next(rt, s, holds, mem, out, style, run, book);
-        if run.used == at {
-            return run;
+impl<'r, 'a, R: Print> Run<'r, 'a, R> {
+    // A run at its start.
+    pub fn over(output: Output<'r, 'a, R>, memory: &'a mut [u8], style: Style) -> Run<'r, 'a, R> {
+        Run {
+            output,
+            memory,
+            style,
+            done: 0,
+            refused: false,
+            either: false,
         }
-        let stop = run.stop;
-        if !is_going(stop) {
-            return run;
+    }
+
+    // The line behind those that were done is malformed.
+    fn malformed(&self) -> Stop {
+        Stop::Malformed(self.done.wrapping_add(1))
+    }
+
+    // Does a line that says something.
+    fn do_said(&mut self, line: &Line) {
+        let given = act(self.memory, line);
+        lines::put_line(&mut self.output.page, self.style, self.done, line, &given);
+        self.refused = self.refused || given.is_err();
+        self.either = self.either || lines::is_either(line, &given);
+    }
+
+    // Does a line.
+    fn do_line(&mut self, line: &Line) -> Result<(), Stop> {
+        self.output.make_room()?;
+        match line {
+            Line::Malformed => return Err(self.malformed()),
+            Line::Blank => {}
+            _ => self.do_said(line),
         }
-        left -= 1;
+        self.done = self.done.wrapping_add(line.step());
+        Ok(())
     }
-    run
-}
 
-// The run at the end of its file.
-pub fn ended(run: Run) -> Run {
-    let stop = run.stop;
-    if is_going(stop) {
-        return stopped(run, Stop::Ended);
+    // Does each whole line of a text. Answers where the line begins that is not whole. (The index is where the next line begins, which the
+    // loop does not count.)
+    pub fn do_lines(&mut self, s: &[u8], holds: Holds) -> Result<usize, Stop> {
+        let mut at = 0;
+        for _ in 0..s.len() {
+            let Some((line, next)) = line_at(s, at, holds) else {
+                return Ok(at);
+            };
+            self.do_line(&line)?;
+            at = next;
+        }
+        Ok(at)
     }
-    run
-}
-
-// The end of the file: what is left is a line without its line feed.
-pub(crate) fn do_last<R: Print>(
-    rt: &R,
-    last: &[u8],
-    mem: &mut [u8],
-    out: &mut [u8],
-    style: Style,
-    run: Run,
-    book: &[u8],
-) -> Run {
-    if last.len() == 0 {
-        return ended(run);
-    }
-    let mut begun = run;
-    begun.used = 0;
-    ended(do_next(rt, last, Holds::LastLine, mem, out, style, begun, book))
 }

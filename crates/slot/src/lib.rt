@@ -11,7 +11,7 @@ use telegram::Address;
 // How many bytes a slot has.
 pub const SIZE: usize = 16;
 
-// The state in a status byte.
+// The state in a status byte: every byte has one, so no TryFrom.
 fn state_in(b: u8) -> State
     ensures { result ≡ state_in b }
 {
@@ -67,8 +67,7 @@ pub fn lamp_of(bytes: [u8; SIZE]) -> Lamp
 pub fn address_of(bytes: [u8; SIZE]) -> Address
     ensures { result ≡ (lamp_of bytes).address }
 {
-    let l = lamp_of(bytes);
-    l.address
+    lamp_of(bytes).address
 }
 
 // Whether two bytes are those of a word. Both are compared low byte on top, as the machine reads two bytes at once.
@@ -91,7 +90,7 @@ fn address_right(a: Address) -> bool
     ensures { result ≡ address_right a.0 }
 {
     let n = a.0;
-    bits::or(n == 0x3FF, bits::and(1 <= n, n <= 0x3EF))
+    n == 0x3FF || 1 <= n && n <= 0x3EF
 }
 
 // Whether the lamp in a slot is valid.
@@ -106,27 +105,22 @@ pub fn is_right(bytes: [u8; SIZE]) -> bool
 pub fn slot_of(l: Lamp) -> [u8; SIZE]
     ensures { result ≡ slot_of l }
 {
-    let a = l.address;
-    let state = l.state;
-    let flags = l.flags;
-    let t = l.thresholds;
-    let w = l.pwm;
     [
-        bits::high(a.0),
-        bits::low(a.0),
-        lamp::status_byte(state, l.direction, flags),
+        bits::high(l.address.0),
+        bits::low(l.address.0),
+        lamp::status_byte(l.state, l.direction, l.flags),
         l.temperature,
-        t.cycle,
-        t.low,
-        t.high,
+        l.thresholds.cycle,
+        l.thresholds.low,
+        l.thresholds.high,
         l.setup,
         bits::high(l.groups),
         bits::low(l.groups),
-        bits::high(w.red),
-        bits::low(w.red),
-        bits::high(w.green),
-        bits::low(w.green),
-        bits::high(w.blue),
-        bits::low(w.blue),
+        bits::high(l.pwm.red),
+        bits::low(l.pwm.red),
+        bits::high(l.pwm.green),
+        bits::low(l.pwm.green),
+        bits::high(l.pwm.blue),
+        bits::low(l.pwm.blue),
     ]
 }

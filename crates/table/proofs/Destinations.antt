@@ -23,10 +23,6 @@ module _ (a : ℕ) where
   unfolding destination
   to-group l h = simp (ne_eqb a 0 (λ (e : a ≡ 0). omega arith), lt-leb a 0x3EF l, le-leb a 0x3FE (omega arith))
 
-  pub to-nobody : 1008 ≤ a → 1023 ≤ a → refused 7 ≡ destination a
-  unfolding destination
-  to-nobody l h = simp (ne_eqb a 0 (λ (e : a ≡ 0). omega arith), lt-leb a 0x3EF l, lt-leb a 0x3FE h)
-
 -- What is known of a destination: its address comes back, and it is in range.
 pub record Reached (a : ℕ) (cast : Cast) : Type 0 where
   pub address : address_of cast ≡ a

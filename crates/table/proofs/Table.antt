@@ -12,36 +12,9 @@ use Rattle.checksum.proofs.Below.{T_true, below, at}
 use Rattle.telegram.specs.Numbers.{Outcome, refused_for, refused, done, after}
 use Rattle.telegram.specs.Telegram.{listed}
 use Rattle.telegram.proofs.Outcomes.{never, done-one}
-use Rattle.table.specs.Table.{row, row_of, payload_fits, fits_row, size_right, answer_size_of}
-use Rattle.table.specs.declared.Casts.TheVariants.{All, Single, First}
+use Rattle.table.specs.Table.{row_of, payload_fits, fits_row, size_right, answer_size_of}
 use Rattle.table.specs.declared.Row.{Row}
 use Rattle.table.proofs.Keys.{member, NoneOf, elsewhere}
-
-pub row-00-01 : (n : ℕ) → n < 2 → row All 0 0 ≡ row_of n
-unfolding row_of
-row-00-01 n h = simp (le-leb n 1 (omega arith))
-
-pub row-02-03 : (n : ℕ) → 2 ≤ n → n < 4 → row First 0 2 ≡ row_of n
-unfolding row_of
-row-02-03 n l h = simp (lt-leb n 1 l, le-leb n 3 (omega arith))
-
-pub row-04-06 : (n : ℕ) → 2 ≤ n → 4 ≤ n → n < 7 → row All 0 0 ≡ row_of n
-unfolding row_of
-row-04-06 n l m h = simp (lt-leb n 1 l, lt-leb n 3 m, le-leb n 6 (omega arith))
-
-pub row-24-26 : (n : ℕ) → 0x24 ≤ n → n < 0x27 → row Single 0 2 ≡ row_of n
-unfolding row_of
-row-24-26 n l h =
-    simp (
-      lt-leb n 0x01 (omega arith),
-      lt-leb n 0x03 (omega arith),
-      lt-leb n 0x06 (omega arith),
-      ne_eqb n 0x07 (λ (e : n ≡ 0x07). omega arith),
-      ne_eqb n 0x0C (λ (e : n ≡ 0x0C). omega arith),
-      ne_eqb n 0x0D (λ (e : n ≡ 0x0D). omega arith),
-      le-leb 0x24 n l,
-      le-leb n 0x26 (omega arith),
-    )
 
 -- The numbers that stand in the table by themselves, the last first.
 abbrev pub keys : List ℕ
@@ -140,14 +113,6 @@ sized {n} {k} {x} size j e s h = sym (done-one (sym s ∙ sym (ap size e) ∙ h)
 pub right-size : {n k x : ℕ} (j : ℕ) → n ≡ k → size_right k ≡ (λ (y : ℕ). eqb y j) → size_right n x ≡ true → x ≡ j
 right-size {n} {k} {x} j e s h =
     eqb-true x j (sym (ap (λ (f : ℕ → Bool). f x) s) ∙ sym (ap (λ (m : ℕ). size_right m x) e) ∙ h)
-
--- A size is right for a number only in a row.
-in_row : (o : Outcome Row) (x : ℕ) → fits_row o x ≡ true → (r : Row) × ((o ≡ done r) × (payload_fits r x ≡ true))
-in_row (refused_for d) x h = absurd (let z : ◌≡◌ {A = ℕ} 0 1 = cc in omega arith)
-in_row (done r) x h = (r, (refl, h))
-
-pub right-row : (n x : ℕ) → size_right n x ≡ true → (r : Row) × ((row_of n ≡ done r) × (payload_fits r x ≡ true))
-right-row n x h = in_row (row_of n) x h
 
 -- The size that a number's row takes is right for the number.
 pub row-right : (n x : ℕ) (r : Row) → row_of n ≡ done r → payload_fits r x ≡ true → size_right n x ≡ true

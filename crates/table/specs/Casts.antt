@@ -4,8 +4,6 @@ use Rattle.std.specs.Prelude.{ℕ, ◌+◌, ◌-◌, Bool, true, cond, ◌&&◌,
 use Rattle.telegram.specs.Numbers.{Outcome, refused, done}
 use Rattle.table.specs.declared.Cast.{Cast}
 use Rattle.table.specs.declared.Cast.TheVariants.{Everyone, One, Group}
-use Rattle.table.specs.declared.Destination.{Destination}
-use Rattle.table.specs.declared.Destination.TheVariants.{To, Nobody}
 
 -- Hex 000 is everyone; 001 to 3EF one lamp; 3F0 to 3FE groups 0 to 14; 3FF is never a destination (7).
 unfoldable pub destination : ℕ → Outcome Cast
@@ -14,11 +12,6 @@ destination a =
     (cond (leb a 0x3EF) (done (One (record { 0 = a })))
     (cond (leb a 0x3FE) (done (Group (a - 0x3F0)))
     (refused 7)))
-
--- The code's answer for an address: to a cast, or to nobody, which is 7.
-abbrev pub destination_as : Destination → Outcome Cast
-destination_as (To cast) = done cast
-destination_as Nobody = refused 7
 
 -- The address that a cast is sent to.
 abbrev pub address_of : Cast → ℕ

@@ -6,8 +6,6 @@ use Rattle.telegram.specs.Numbers.{Outcome, refused_for, refused, done, after}
 use Rattle.table.specs.declared.Casts.{Casts}
 use Rattle.table.specs.declared.Casts.TheVariants.{All, Single, First}
 use Rattle.table.specs.declared.Row.{Row}
-use Rattle.table.specs.declared.Entry.{Entry}
-use Rattle.table.specs.declared.Entry.TheVariants.{Known, Unknown}
 use Rattle.table.specs.declared.Cast.{Cast}
 use Rattle.table.specs.declared.Cast.TheVariants.{Everyone, One, Group}
 
@@ -47,11 +45,6 @@ acknowledged n = (leb 0x24 n && leb n 0x26) || (eqb n 0x2D || (eqb n 0x6B || (eq
 -- The number of a command's plain form: of an acknowledged one it is without bit 5, which counts hex 20; of any other its own.
 unfoldable pub plain_number : ℕ → ℕ
 plain_number n = cond (acknowledged n) (n - 0x20) n
-
--- The code's answer for a number: a row of the table, or unknown, which is 6.
-abbrev pub entry_as : Entry → Outcome Row
-entry_as (Known r) = done r
-entry_as Unknown = refused 6
 
 -- The column of casts: all three; one lamp; a first address, which is named as one lamp, or everyone.
 abbrev pub cast_listed : Casts → Cast → Bool

@@ -2,8 +2,9 @@
 #![tactic(auto)]
 
 ghost use Rattle.std.specs.Prelude.{◌≡◌};
-ghost use Rattle.table.specs.Casts.{destination, destination_as, address_of, cast_in_range};
-ghost use Rattle.table.specs.Table.{row_of, entry_as, acknowledged, plain_number, cast_listed, payload_fits, lists_cast};
+ghost use Rattle.telegram.specs.Numbers.{outcome_or};
+ghost use Rattle.table.specs.Casts.{destination, address_of, cast_in_range};
+ghost use Rattle.table.specs.Table.{row_of, acknowledged, plain_number, cast_listed, payload_fits, lists_cast};
 
 use telegram::Address;
 
@@ -23,13 +24,6 @@ pub struct Row {
     pub answer: usize,
 }
 
-// What the table has for a number.
-#[derive(Clone, Copy)]
-pub enum Entry {
-    Known(Row),
-    Unknown,
-}
-
 // Document 01's cast, to whom a command goes: everyone (broadcast), one lamp (unicast) or a group. An init's first address
 // is named as one lamp.
 #[derive(Clone, Copy)]
@@ -39,47 +33,35 @@ pub enum Cast {
     Group(u8),
 }
 
-// What an address stands for as a destination.
-#[derive(Clone, Copy)]
-pub enum Destination {
-    To(Cast),
-    Nobody,
-}
-
-// The table's row for a command number.
-pub fn row_of(command: u8) -> Entry
-    ensures { entry_as result ≡ row_of command }
+// The table's row for a command number; none for a number that it does not have.
+#[tactic(auto, unfolding(crate::specs::Table::row_of))]
+pub fn row_of(command: u8) -> Option<Row>
+    ensures { outcome_or 6 result ≡ row_of command }
 {
-    match command {
-        0x00..=0x01 => known(Casts::All, 0, 0),
-        0x02..=0x03 => known(Casts::First, 0, 2),
-        0x04..=0x06 => known(Casts::All, 0, 0),
-        0x07 => known(Casts::Single, 0, 4),
-        0x0C => known(Casts::Single, 0, 2),
-        0x0D => known(Casts::All, 2, 0),
-        0x24..=0x26 => known(Casts::Single, 0, 2),
-        0x2D => known(Casts::Single, 2, 2),
-        0x40 => known(Casts::Single, 0, 1),
-        0x42 => known(Casts::Single, 0, 2),
-        0x48 => known(Casts::Single, 0, 1),
-        0x4A => known(Casts::Single, 0, 3),
-        0x4B => known(Casts::All, 3, 0),
-        0x4C => known(Casts::Single, 0, 1),
-        0x4D => known(Casts::All, 1, 0),
-        0x4E => known(Casts::Single, 0, 6),
-        0x4F => known(Casts::All, 6, 0),
-        0x6B => known(Casts::Single, 3, 2),
-        0x6D => known(Casts::Single, 1, 2),
-        0x6F => known(Casts::Single, 6, 2),
-        _ => Entry::Unknown,
-    }
-}
-
-// A row of the table.
-fn known(casts: Casts, payload: usize, answer: usize) -> Entry
-    ensures { result ≡ Entry.Known (record { casts = casts; payload = payload; answer = answer }) }
-{
-    Entry::Known(Row {
+    let (casts, payload, answer) = match command {
+        0x00..=0x01 => (Casts::All, 0, 0),
+        0x02..=0x03 => (Casts::First, 0, 2),
+        0x04..=0x06 => (Casts::All, 0, 0),
+        0x07 => (Casts::Single, 0, 4),
+        0x0C => (Casts::Single, 0, 2),
+        0x0D => (Casts::All, 2, 0),
+        0x24..=0x26 => (Casts::Single, 0, 2),
+        0x2D => (Casts::Single, 2, 2),
+        0x40 => (Casts::Single, 0, 1),
+        0x42 => (Casts::Single, 0, 2),
+        0x48 => (Casts::Single, 0, 1),
+        0x4A => (Casts::Single, 0, 3),
+        0x4B => (Casts::All, 3, 0),
+        0x4C => (Casts::Single, 0, 1),
+        0x4D => (Casts::All, 1, 0),
+        0x4E => (Casts::Single, 0, 6),
+        0x4F => (Casts::All, 6, 0),
+        0x6B => (Casts::Single, 3, 2),
+        0x6D => (Casts::Single, 1, 2),
+        0x6F => (Casts::Single, 6, 2),
+        _ => return None,
+    };
+    Some(Row {
         casts,
         payload,
         answer,
@@ -87,15 +69,15 @@ fn known(casts: Casts, payload: usize, answer: usize) -> Entry
 }
 
 // Whether a number is an acknowledged command's.
+#[tactic(auto, unfolding(crate::specs::Table::acknowledged))]
 pub fn is_acknowledged(n: u8) -> bool
     ensures { result ≡ acknowledged n }
 {
-    let go = bits::and(0x24 <= n, n <= 0x26);
-    let set = bits::or(n == 0x6B, bits::or(n == 0x6D, n == 0x6F));
-    bits::or(go, bits::or(n == 0x2D, set))
+    matches!(n, 0x24..=0x26 | 0x2D | 0x6B | 0x6D | 0x6F)
 }
 
 // The number of a command's plain form.
+#[tactic(auto, unfolding(crate::specs::Table::plain_number, crate::specs::Table::acknowledged))]
 pub fn plain_number(n: u8) -> u8
     ensures { result ≡ plain_number n }
 {
@@ -111,16 +93,8 @@ pub fn cast_listed(casts: Casts, cast: Cast) -> bool
 {
     match casts {
         Casts::All => true,
-        Casts::Single => match cast {
-            Cast::Everyone => false,
-            Cast::One(_) => true,
-            Cast::Group(_) => false,
-        },
-        Casts::First => match cast {
-            Cast::Everyone => true,
-            Cast::One(_) => true,
-            Cast::Group(_) => false,
-        },
+        Casts::Single => matches!(cast, Cast::One(_)),
+        Casts::First => matches!(cast, Cast::Everyone | Cast::One(_)),
     }
 }
 
@@ -128,12 +102,10 @@ pub fn cast_listed(casts: Casts, cast: Cast) -> bool
 pub fn lists_cast(n: u8, cast: Cast) -> bool
     ensures { result ≡ lists_cast (row_of n) cast }
 {
-    let entry = row_of(n);
-    let Entry::Known(row) = entry else {
+    let Some(row) = row_of(n) else {
         return false;
     };
-    let casts = row.casts;
-    cast_listed(casts, cast)
+    cast_listed(row.casts, cast)
 }
 
 // Whether a payload of `size` bytes is right for the command of a row.
@@ -143,16 +115,17 @@ pub fn payload_fits(row: Row, size: usize) -> bool
     size == row.payload
 }
 
-// What an address stands for as a destination.
-pub fn destination_of(address: Address) -> Destination
-    ensures { destination_as result ≡ destination address.0 }
+// What an address stands for as a destination; none for one that is never a destination.
+#[tactic(auto, unfolding(crate::specs::Casts::destination))]
+pub fn destination_of(address: Address) -> Option<Cast>
+    ensures { outcome_or 7 result ≡ destination address.0 }
 {
     let a = address.0;
     match a {
-        0 => Destination::To(Cast::Everyone),
-        0x001..=0x3EF => Destination::To(Cast::One(address)),
-        0x3F0..=0x3FE => Destination::To(Cast::Group((a - 0x3F0) as u8)),
-        _ => Destination::Nobody,
+        0 => Some(Cast::Everyone),
+        0x001..=0x3EF => Some(Cast::One(address)),
+        0x3F0..=0x3FE => Some(Cast::Group((a - 0x3F0) as u8)),
+        _ => None,
     }
 }
 
@@ -173,7 +146,7 @@ pub fn cast_in_range(cast: Cast) -> bool
 {
     match cast {
         Cast::Everyone => true,
-        Cast::One(a) => bits::and(1 <= a.0, a.0 <= 0x3EF),
+        Cast::One(a) => 1 <= a.0 && a.0 <= 0x3EF,
         Cast::Group(g) => g <= 14,
     }
 }

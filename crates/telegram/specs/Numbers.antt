@@ -1,12 +1,9 @@
 -- Document 01, "Numbers given back": what a call gives back, and which number each refusal has.
 -- Assumes nothing.
-use Rattle.std.specs.Prelude.{ℕ, ◌+◌, ◌*◌, Bool, true, false, List, [], ◌∷◌, ◌++◌, ltb, length, drop}
+use Rattle.std.specs.Prelude.{ℕ, ◌+◌, ◌*◌, Bool, true, false, Option, Some, None, Result, Ok, Err, List, [], ◌∷◌, ◌++◌, nat_lt, length, drop}
 use Rattle.telegram.specs.declared.Refusal.{Refusal}
 use Rattle.telegram.specs.declared.Refusal.TheVariants.{TooShort, Preamble, SizeIndex, ByteCount, Checksum, UnknownCommand, CastNotAllowed, PayloadSize, RoomTooSmall, OutOfRange, NoChain, InitPastEnd, NoLamp}
 use Rattle.telegram.specs.declared.Checksums.{Checksums}
-use Rattle.telegram.specs.declared.Checksums.TheVariants.{Both, None}
-use Rattle.telegram.specs.declared.Built.{Built}
-use Rattle.telegram.specs.declared.Built.TheVariants.{Done, Refused}
 
 -- Why a call refuses: the number of the table, and what the refusal carries.
 pub record Reason : Type 0 where
@@ -74,14 +71,19 @@ abbrev pub value_of : Reason → ℕ
 value_of e = low_first (e.number ∷ e.carries)
 
 -- The checksums of a refusal as the code gives them.
-abbrev pub checksums_as : Checksums → List ℕ
-checksums_as (Both computed received) = computed ∷ received ∷ []
+abbrev pub checksums_as : Option Checksums → List ℕ
+checksums_as (Some c) = c.computed ∷ c.received ∷ []
 checksums_as None = []
 
--- A builder's answer: its refusal, or done with how many bytes it wrote.
-abbrev pub built_as : Built → Outcome ℕ
-built_as (Done n) = done n
-built_as (Refused e) = refused_for (reason_of e)
+-- What the code answers: its refusal, or done with a value.
+abbrev pub outcome_of : {A : Type 0} → Result A Refusal → Outcome A
+outcome_of (Ok a) = done a
+outcome_of (Err e) = refused_for (reason_of e)
+
+-- What the code answers where one refusal alone is possible, that of a number: the value, or none.
+abbrev pub outcome_or : {A : Type 0} → ℕ → Option A → Outcome A
+outcome_or n (Some a) = done a
+outcome_or n None = refused n
 
 -- How many bytes an outcome that is bytes has.
 abbrev pub counted : Outcome (List ℕ) → Outcome ℕ
@@ -90,7 +92,7 @@ counted (done s) = done (length s)
 
 -- Room is too small when it is shorter than what would be written: 9.
 abbrev pub fitted : ℕ → List ℕ → Outcome (List ℕ)
-fitted room s = refuse (ltb room (length s)) 9 (done s)
+fitted room s = refuse (nat_lt room (length s)) 9 (done s)
 
 -- Bytes written to the front of a lent room; the bytes past the last written one stay.
 abbrev pub front : List ℕ → List ℕ → List ℕ

@@ -1,23 +1,16 @@
 -- Document 01, "The bytes of a telegram": what the reader gives of a list of bytes, and what the raw builder makes.
 -- Assumes nothing.
-use Rattle.std.specs.Prelude.{ℕ, ◌+◌, ◌*◌, ◌/◌, ◌%◌, ◌<◌, Bool, cond, not, ◌||◌, List, [], ◌∷◌, ◌++◌, eqb, ltb, leb, length, get_or, take, drop}
+use Rattle.std.specs.Prelude.{ℕ, ◌+◌, ◌*◌, ◌/◌, ◌%◌, ◌<◌, Bool, cond, not, ◌||◌, Result, Ok, Err, List, [], ◌∷◌, ◌++◌, eqb, ltb, leb, length, get_or, take, drop}
 use Rattle.checksum.specs.Checksum.{checksum_of}
-use Rattle.telegram.specs.Numbers.{Outcome, refused_for, done, refuse_for, refuse, after, fitted, wrong_checksum, reason_of}
+use Rattle.telegram.specs.Numbers.{Outcome, done, refuse_for, refuse, after, fitted, wrong_checksum}
 use Rattle.telegram.specs.declared.Telegram.{Telegram}
 use Rattle.telegram.specs.declared.Refusal.{Refusal}
 use Rattle.telegram.specs.declared.Refusal.TheVariants.{TooShort}
-use Rattle.telegram.specs.declared.Read.{Read}
-use Rattle.telegram.specs.declared.Read.TheVariants.{Accepted, Refused}
-
--- The reader's answer: its refusal, or done with address, command and payload size.
-abbrev pub read_as : Read → Outcome Telegram
-read_as (Accepted t) = done t
-read_as (Refused e) = refused_for (reason_of e)
 
 -- The refusal that the reader's answer holds. (An accepted telegram holds none; of it this gives 1.)
-abbrev pub refusal_in : Read → Refusal
-refusal_in (Refused e) = e
-refusal_in (Accepted t) = TooShort
+abbrev pub refusal_in : Result Telegram Refusal → Refusal
+refusal_in (Err e) = e
+refusal_in (Ok t) = TooShort
 
 -- Most significant bit first: the preamble is the top 4 bits of byte 0 ..
 abbrev pub preamble_in : List ℕ → ℕ

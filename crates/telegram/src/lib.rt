@@ -5,13 +5,13 @@ mod refusals;
 
 ghost use Rattle.std.specs.Prelude.{◌≡◌, ◌+◌, ◌*◌, ◌/◌, ◌%◌, ◌≤◌, ◌<◌, ◌++◌, length, take, drop, set};
 ghost use Rattle.checksum.specs.Checksum.{checksum_of};
-ghost use Rattle.telegram.specs.Numbers.{built_as, counted, front, leaves};
-ghost use Rattle.telegram.specs.Telegram.{read_as, index_from, size_of, framing, reading, computed_in, received_in, header, listed, index_of, telegram_of, building};
+ghost use Rattle.telegram.specs.Numbers.{outcome_of, counted, front, leaves};
+ghost use Rattle.telegram.specs.Telegram.{index_from, size_of, framing, reading, computed_in, received_in, header, listed, index_of, telegram_of, building};
 
 pub use refusals::{checksums_of, refusal_number, refusal_of, refusal_value};
 
 // An address on the chain, of 10 bits. A lamp's place in the chain is another kind of number, with a type of its own.
-#[derive(Clone, Copy)]
+#[derive(Clone, Copy, PartialEq, Eq)]
 pub struct Address(pub u16);
 
 // A telegram that was read. Its payload stays in the slice: `size` bytes from index 3 on.
@@ -23,7 +23,7 @@ pub struct Telegram {
 }
 
 // The refusals of document 01 in the order of their numbers, 1 to 13. A wrong checksum has the one worked out and the one received.
-#[derive(Clone, Copy)]
+#[derive(Clone, Copy, PartialEq, Eq)]
 pub enum Refusal {
     TooShort,
     Preamble,
@@ -40,25 +40,11 @@ pub enum Refusal {
     NoLamp,
 }
 
-// The checksums that a refusal has: the one worked out and the one received, or none.
+// The checksums of a telegram: the one worked out and the one received.
 #[derive(Clone, Copy)]
-pub enum Checksums {
-    Both(u8, u8),
-    None,
-}
-
-// What the reader answers.
-#[derive(Clone, Copy)]
-pub enum Read {
-    Accepted(Telegram),
-    Refused(Refusal),
-}
-
-// What a builder answers: how many bytes it wrote, or why it wrote none.
-#[derive(Clone, Copy)]
-pub enum Built {
-    Done(usize),
-    Refused(Refusal),
+pub struct Checksums {
+    pub computed: u8,
+    pub received: u8,
 }
 
 // The size index in bytes 1 and 2.
@@ -83,30 +69,28 @@ pub fn size_of(index: u8) -> usize
 }
 
 // The frame of a telegram: everything but its checksum. Refusals 1 to 4.
-pub fn read_frame(s: &[u8]) -> Read
-    ensures { read_as result ≡ framing s.now }
+pub fn read_frame(s: &[u8]) -> Result<Telegram, Refusal>
+    ensures { outcome_of result ≡ framing s.now }
 {
     let n = s.len();
     if n < 4 {
-        return Read::Refused(Refusal::TooShort);
+        return Err(Refusal::TooShort);
     }
     let b0 = s[0];
     let b1 = s[1];
     let b2 = s[2];
-    let preamble = b0 / 16;
-    if preamble != 10 {
-        return Read::Refused(Refusal::Preamble);
+    if b0 / 16 != 10 {
+        return Err(Refusal::Preamble);
     }
     let index = index_in(b1, b2);
     if index == 5 {
-        return Read::Refused(Refusal::SizeIndex);
+        return Err(Refusal::SizeIndex);
     }
     let size = size_of(index);
-    let count = 4 + size;
-    if n != count {
-        return Read::Refused(Refusal::ByteCount);
+    if n != 4 + size {
+        return Err(Refusal::ByteCount);
     }
-    Read::Accepted(Telegram {
+    Ok(Telegram {
         address: Address(address_in(b0, b1)),
         command: b2 % 128,
         size,
@@ -118,8 +102,7 @@ fn computed_in(s: &[u8], size: usize) -> u8
     requires { 3 + size < length s.now }
     ensures { result ≡ computed_in s.now size }
 {
-    let last = 3 + size;
-    checksum::checksum(&s[..last])
+    checksum::checksum(&s[..3 + size])
 }
 
 // The byte behind a payload of `size` bytes.
@@ -131,33 +114,23 @@ fn received_in(s: &[u8], size: usize) -> u8
 }
 
 // The telegram in a slice that has just its bytes. Refusals 1 to 5, which has both checksums.
-pub fn read_telegram(s: &[u8]) -> Read
-    ensures { read_as result ≡ reading s.now }
+pub fn read_telegram(s: &[u8]) -> Result<Telegram, Refusal>
+    ensures { outcome_of result ≡ reading s.now }
 {
-    let frame = read_frame(s);
-    let Read::Accepted(t) = frame else {
-        return frame;
-    };
-    let size = t.size;
-    let computed = computed_in(s, size);
-    let received = received_in(s, size);
+    let t = read_frame(s)?;
+    let computed = computed_in(s, t.size);
+    let received = received_in(s, t.size);
     if computed != received {
-        return Read::Refused(Refusal::Checksum(computed, received));
+        return Err(Refusal::Checksum(computed, received));
     }
-    Read::Accepted(t)
+    Ok(t)
 }
 
 // Whether a payload of `n` bytes has a size index.
 fn listed_length(n: usize) -> bool
     ensures { result ≡ listed n }
 {
-    if n <= 4 {
-        return true;
-    }
-    if n == 6 {
-        return true;
-    }
-    n == 8
+    n <= 4 || n == 6 || n == 8
 }
 
 // The size index of a payload of `n` bytes.
@@ -167,6 +140,9 @@ fn index_of(n: usize) -> u8
 {
     if n == 8 { 7 } else { n as u8 }
 }
+
+// The three bytes of a header, each of the numbers that stand in it. That address, index and command are in range is asked of each: a struct
+// would hold the three for one call, and say no more.
 
 // Byte 0: preamble and the top of the address.
 fn byte_0(a: u16) -> u8
@@ -197,12 +173,9 @@ fn write_header(a: u16, index: u8, c: u8, out: &mut [u8])
     requires { (a ≤ 1023) × (index ≤ 7) × (c ≤ 127) × (3 ≤ length out.old) }
     ensures { out.new ≡ front (header a index c) out.old }
 {
-    let b0 = byte_0(a);
-    let b1 = byte_1(a, index);
-    let b2 = byte_2(index, c);
-    out[0] = b0;
-    out[1] = b1;
-    out[2] = b2;
+    out[0] = byte_0(a);
+    out[1] = byte_1(a, index);
+    out[2] = byte_2(index, c);
 }
 
 // Copies `src` into `dst`, from the index `at` on.
@@ -218,8 +191,7 @@ fn seal(out: &mut [u8], n: usize)
     requires { n < length out.old }
     ensures { out.new ≡ set out.old n (checksum_of (take n out.old)) }
 {
-    let sum = checksum::checksum(&out[..n]);
-    out[n] = sum;
+    out[n] = checksum::checksum(&out[..n]);
 }
 
 // Writes a telegram to the front of a room that is long enough.
@@ -235,25 +207,22 @@ fn write_telegram(a: u16, c: u8, payload: &[u8], out: &mut [u8])
 }
 
 // The raw builder. Refusals 10, then 9.
-pub fn build_telegram(address: Address, command: u8, payload: &[u8], out: &mut [u8]) -> Built
-    ensures result_value { built_as result ≡ counted (building address.0 command payload.now (length out.old)) }
+pub fn build_telegram(
+    address: Address,
+    command: u8,
+    payload: &[u8],
+    out: &mut [u8],
+) -> Result<usize, Refusal>
+    ensures result_value { outcome_of result ≡ counted (building address.0 command payload.now (length out.old)) }
     ensures out_after { out.new ≡ leaves (building address.0 command payload.now (length out.old)) out.old }
 {
-    let a = address.0;
-    if 1023 < a {
-        return Built::Refused(Refusal::OutOfRange);
+    if 1023 < address.0 || 127 < command || !listed_length(payload.len()) {
+        return Err(Refusal::OutOfRange);
     }
-    if 127 < command {
-        return Built::Refused(Refusal::OutOfRange);
-    }
-    let n = payload.len();
-    if !listed_length(n) {
-        return Built::Refused(Refusal::OutOfRange);
-    }
-    let total = 4 + n;
+    let total = 4 + payload.len();
     if out.len() < total {
-        return Built::Refused(Refusal::RoomTooSmall);
+        return Err(Refusal::RoomTooSmall);
     }
-    write_telegram(a, command, payload, out);
-    Built::Done(total)
+    write_telegram(address.0, command, payload, out);
+    Ok(total)
 }

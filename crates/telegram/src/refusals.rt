@@ -1,9 +1,10 @@
-// What a refusal is in numbers: its own, and the two checksums that a wrong one has.
+// What a refusal is in numbers: its own, and the two checksums that a wrong one has. Functions and no `From`: a refusal has two numbers, and
+// each contract names the one that it gives.
 ghost use Rattle.std.specs.Prelude.{◌≡◌};
 ghost use Rattle.telegram.specs.Numbers.{reason_of, number_of, checksums_as, value_of};
 ghost use Rattle.telegram.specs.Telegram.{refusal_in};
 
-use crate::{Checksums, Read, Refusal};
+use crate::{Checksums, Refusal, Telegram};
 
 // The number of a refusal.
 pub fn refusal_number(e: Refusal) -> u8
@@ -27,13 +28,13 @@ pub fn refusal_number(e: Refusal) -> u8
 }
 
 // The checksums that a refusal has.
-pub fn checksums_of(e: Refusal) -> Checksums
+pub fn checksums_of(e: Refusal) -> Option<Checksums>
     ensures { checksums_as result ≡ (reason_of e).carries }
 {
     let Refusal::Checksum(computed, received) = e else {
-        return Checksums::None;
+        return None;
     };
-    Checksums::Both(computed, received)
+    Some(Checksums { computed, received })
 }
 
 // A refusal in one number: its own in the lowest byte and, of a wrong checksum, the two in the next two bytes.
@@ -41,21 +42,19 @@ pub fn refusal_value(e: Refusal) -> u32
     ensures { result ≡ value_of (reason_of e) }
 {
     let number = refusal_number(e) as u32;
-    let sums = checksums_of(e);
-    match sums {
-        Checksums::Both(computed, received) => {
-            number + computed as u32 * 256 + received as u32 * 65536
-        }
-        Checksums::None => number,
+    match checksums_of(e) {
+        Some(sums) => number + sums.computed as u32 * 256 + sums.received as u32 * 65536,
+        None => number,
     }
 }
 
-// The refusal in the reader's answer, to pass it on whole. (An accepted telegram, of which nothing asks, gives 1.)
-pub fn refusal_of(r: Read) -> Refusal
+// The refusal in the reader's answer, to pass it on whole. (An accepted telegram, of which nothing asks, gives 1.) The crates here write
+// `unwrap_err`; docs/PROMISES.md names this function.
+pub fn refusal_of(r: Result<Telegram, Refusal>) -> Refusal
     ensures { result ≡ refusal_in r }
 {
     match r {
-        Read::Refused(e) => e,
-        Read::Accepted(_) => Refusal::TooShort,
+        Err(e) => e,
+        Ok(_) => Refusal::TooShort,
     }
 }

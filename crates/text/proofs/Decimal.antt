@@ -4,8 +4,13 @@ use Rattle.std.proofs.Common.{◌≡◌, ℕ, zero, suc, ◌+◌, ◌-◌, ◌*�
 use native.Mathlib.Nat.{one-le-pow, pow-le-pow_right}
 use lib.ListN.{length-replicate}
 use Rattle.io.specs.Digits.{hex_digit_ascii, last_digits, IsDigitCount}
-use Rattle.text.proofs.Order.{either}
+use Rattle.std.proofs.lemmas.Bool.{cases_lt}
+use Rattle.std.proofs.Math.Logic.{⊎_elim}
 use Rattle.text.specs.Putting.{decimal_up_to, decimal, empty_places, in_five}
+
+-- by whether a number is below another
+either : {A : Type 0} (m n : ℕ) → (m < n → A) → (n ≤ m → A) → A
+either m n below not-below = ⊎_elim below not-below (cases_lt m n)
 
 module _ (k n : ℕ) where
   last : n < 10 → decimal_up_to (suc k) n ≡ (48 + n) ∷ []

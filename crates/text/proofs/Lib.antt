@@ -1,4 +1,2 @@
-pub mod Order
-pub mod Parts
 pub mod Appending
 pub mod Decimal

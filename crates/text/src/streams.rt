@@ -1,5 +1,5 @@
 // The standard streams: what is printed on them, and how an error of theirs is told.
-use crate::first;
+use crate::Page;
 use std::io::Error;
 
 // The descriptors of standard input, standard output and standard error.
@@ -9,14 +9,16 @@ pub const OUT: i32 = 1;
 
 pub const ERR: i32 = 2;
 
-// Prints the first n bytes in one call.
-pub fn flush<P: Print>(to: &P, out: &[u8], n: usize) -> Result<(), Error> {
-    to.write_all(first(out, n))
-}
+impl<'a> Page<'a> {
+    // Prints what is written in one call.
+    pub fn flush<P: Print>(&self, to: &P) -> Result<(), Error> {
+        to.write_all(self.written())
+    }
 
-// Writes the first n bytes on a descriptor, as far as it takes them.
-pub fn say(fd: i32, out: &[u8], n: usize) {
-    io::write_all(fd, first(out, n));
+    // Writes what is written on a descriptor, as far as it takes it.
+    pub fn say(&self, fd: i32) {
+        io::write_all(fd, self.written());
+    }
 }
 
 // The system's number for an input or output that failed.

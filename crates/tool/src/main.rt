@@ -1,173 +1,149 @@
 // osp, the tool: its arguments, and a script of subcommands. docs/TOOL.md has what each reads and prints.
 #![tactic(auto)]
 
+use complaint::{Complaint, Status, Subcommand, Voice};
 use std::env::FillError;
 use std::process::ExitCode;
 use std::rt::{Env, Files};
-
-// The arguments joined into one line, a byte 0 behind each, and whether there was room.
-#[derive(Clone, Copy)]
-struct Line {
-    used: usize,
-    fits: bool,
-}
+use text::Page;
 
 fn main(rt: HostRuntime) -> ExitCode {
     let mut space = io::buffer();
-    let line = gather(&rt, &mut space);
-    ExitCode::from(run_arguments(&rt, &space, line))
+    let mut page = Page::over(&mut space);
+    let gathered = gather(&rt, &mut page);
+    ExitCode::from(run_arguments(&rt, page.written(), gathered))
 }
 
-// Puts argument i behind the others, or answers none behind the last.
-fn with_argument<R: Env>(rt: &R, i: usize, out: &mut [u8], line: Line) -> Option<Line> {
-    let at = text::within(line.used, out);
-    match rt.arg(i, &mut out[at..]) {
-        Ok(n) => {
-            let end = text::put_byte(out, at.wrapping_add(n), 0);
-            Some(Line {
-                used: end,
-                fits: end != at,
-            })
-        }
-        Err(FillError::TooLong) => Some(Line {
-            used: at,
-            fits: false,
-        }),
-        Err(FillError::NotPresent) => None,
+// Puts argument i behind the others, and a byte 0 behind it.
+fn put_argument<R: Env>(rt: &R, i: usize, page: &mut Page) -> Result<(), FillError> {
+    let at = text::within(page.used, page.room);
+    let n = rt.arg(i, &mut page.room[at..])?;
+    page.used = at.wrapping_add(n);
+    page.put_byte(0);
+    if page.used == at {
+        Err(FillError::TooLong)
+    } else {
+        Ok(())
     }
 }
 
-// All arguments but the program's name, up to the first for which there is no room.
-fn gather<R: Env>(rt: &R, out: &mut [u8]) -> Line {
-    let mut line = Line {
-        used: 0,
-        fits: true,
-    };
+// Puts all arguments but the program's name into one line, or those before the first for which there is no room.
+fn gather<R: Env>(rt: &R, page: &mut Page) -> Result<(), FillError> {
     for i in 1..usize::MAX {
-        let Some(next) = with_argument(rt, i, out, line) else {
-            return line;
-        };
-        line = next;
-        if !line.fits {
-            return line;
+        match put_argument(rt, i, page) {
+            Ok(()) => {}
+            Err(FillError::NotPresent) => return Ok(()),
+            Err(FillError::TooLong) => return Err(FillError::TooLong),
         }
     }
-    line
+    Ok(())
 }
 
 // The first word of a line, and what follows it.
-fn first_word(line: &[u8]) -> &[u8] {
-    text::first(line, text::find(line, 0, line.len(), 0))
-}
-
-fn after_word(line: &[u8]) -> &[u8] {
+fn split_word(line: &[u8]) -> (&[u8], &[u8]) {
     let end = text::find(line, 0, line.len(), 0);
-    text::from(line, end.wrapping_add(1))
+    (
+        text::first(line, end),
+        text::from(line, end.wrapping_add(1)),
+    )
 }
 
 // The status that the program ends with: that of the subcommand behind the word --status, which the script `osp` puts first, else 0.
-fn run_arguments<R: Files + Input + Print>(rt: &R, space: &[u8], given: Line) -> u8 {
-    let line = text::first(space, given.used);
-    if first_word(line) == b"--status".as_slice() {
-        return run_first(rt, after_word(line), given.fits);
+fn run_arguments<R: Files + Input + Print>(
+    rt: &R,
+    line: &[u8],
+    gathered: Result<(), FillError>,
+) -> u8 {
+    let (word, rest) = split_word(line);
+    if word == b"--status".as_slice() {
+        return u8::from(run_first(rt, rest, gathered));
     }
-    run_first(rt, line, given.fits);
+    run_first(rt, line, gathered);
     0
 }
 
-fn run_first<R: Files + Input + Print>(rt: &R, line: &[u8], fits: bool) -> u8 {
-    if !fits {
-        return complaint::say(text::ERR, complaint::ARGUMENTS, complaint::TOO_LONG);
+fn run_first<R: Files + Input + Print>(
+    rt: &R,
+    line: &[u8],
+    gathered: Result<(), FillError>,
+) -> Status {
+    if gathered.is_err() {
+        let voice = Voice {
+            err: text::ERR,
+            subcommand: Subcommand::Arguments,
+        };
+        return voice.say(Complaint::TooLong);
     }
     if line == b"script\0".as_slice() {
-        return run_script(rt);
+        run_script(rt);
+        return Status::Done;
     }
     run_line(rt, line, text::ERR)
 }
 
 // Runs a subcommand: words with a byte 0 behind each. Answers its status.
-fn run_line<R: Files + Input + Print>(rt: &R, line: &[u8], err: i32) -> u8 {
-    let word = first_word(line);
-    let rest = after_word(line);
-    let k = text::line_in(b"fields\nbuild\nreplay\nboard\ndump\n", word);
-    match k {
-        0 => fields::show_fields(rt, rest, err),
-        1 => ask::build::build(rt, rest, err),
-        2 => replay::replay_file(rt, rest, err),
-        3 => replay::draw(rt, rest, err),
-        4 => dump::dump_file(rt, rest, err),
+fn run_line<R: Files + Input + Print>(rt: &R, line: &[u8], err: i32) -> Status {
+    let (word, rest) = split_word(line);
+    match word {
+        b"fields" => fields::show_fields(rt, rest, err),
+        b"build" => ask::build::build(rt, rest, err),
+        b"replay" => replay::replay_file(rt, rest, err),
+        b"board" => replay::draw(rt, rest, err),
+        b"dump" => dump::dump_file(rt, rest, err),
         _ => run_other(rt, word, rest, err),
     }
 }
 
 // The subcommands that take one word at most.
-fn run_other<R: Print>(rt: &R, word: &[u8], rest: &[u8], err: i32) -> u8 {
-    if after_word(rest).len() != 0 {
-        return complaint::say_word(err, complaint::HELP, complaint::ONE_WORD, word);
+fn run_other<R: Print>(rt: &R, word: &[u8], rest: &[u8], err: i32) -> Status {
+    let voice = Voice {
+        err,
+        subcommand: Subcommand::Help,
+    };
+    let (first, more) = split_word(rest);
+    if !more.is_empty() {
+        return voice.say(Complaint::OneWord(word));
     }
-    let k = text::line_in(b"info\nhelp\n--help\n-h\n\n", word);
-    match k {
-        0 => ask::info::info(rt, first_word(rest), err),
-        1..=3 => ask::help(rt, first_word(rest), err),
-        4 => complaint::say(err, complaint::HELP, complaint::SUBCOMMAND_EXPECTED),
-        _ => complaint::say_word(err, complaint::HELP, complaint::NO_SUBCOMMAND, word),
+    match word {
+        b"info" => ask::info::info(rt, first, err),
+        b"help" | b"--help" | b"-h" => ask::help(rt, first, err),
+        b"" => voice.say(Complaint::SubcommandExpected),
+        _ => voice.say(Complaint::NoSubcommand(word)),
     }
 }
 
-// A space, which separates the words of a line, as the byte 0 between arguments.
-fn separated(b: u8) -> u8 {
-    if b == b' ' { 0 } else { b }
-}
-
-// Appends a line of a script as arguments.
-fn put_words(out: &mut [u8], line: &[u8]) -> usize {
-    let mut a = 0;
-    let mut i = 0;
-    while i < line.len() {
-        a = text::put_byte(out, a, separated(line[i]));
-        i += 1;
+// Puts a line of a script as arguments: for each space, which separates its words, the byte 0, and one behind them.
+fn put_words(page: &mut Page, line: &[u8]) {
+    for b in line {
+        page.put_byte(if *b == b' ' { 0 } else { *b });
     }
-    text::put_byte(out, a, 0)
+    page.put_byte(0);
 }
 
 // Prints a line of a script, runs it, and prints its status. What is wrong goes to standard output too.
 fn run_script_line<R: Files + Input + Print>(rt: &R, line: &[u8]) {
     let mut space = io::buffer();
+    let mut page = Page::over(&mut space);
     io::write_all(text::OUT, b">> ");
     io::write_all(text::OUT, line);
     io::write_all(text::OUT, b"\n");
-    let n = put_words(&mut space, text::first(line, 4095));
-    let status = run_line(rt, text::first(&space, n), text::OUT);
-    io::write_all(
-        text::OUT,
-        &[
-            b's',
-            b't',
-            b'a',
-            b't',
-            b'u',
-            b's',
-            b' ',
-            text::digit(status),
-            b'\n',
-        ],
-    );
+    put_words(&mut page, text::first(line, 4095));
+    let status = run_line(rt, page.written(), text::OUT);
+    page.clear();
+    page.put(b"status ");
+    page.put_byte(text::digit(u8::from(status)));
+    page.put_byte(b'\n');
+    page.say(text::OUT);
 }
 
-// Runs each line of a text.
-fn run_lines<R: Files + Input + Print>(rt: &R, s: &[u8]) {
-    let n = s.len();
-    let mut at = 0;
-    while at < n {
-        let end = text::find(s, at, n, b'\n');
-        run_script_line(rt, &s[at..end]);
-        at = end + 1;
-    }
-}
-
-fn run_script<R: Files + Input + Print>(rt: &R) -> u8 {
+// Runs each line of standard input.
+fn run_script<R: Files + Input + Print>(rt: &R) {
     let mut space = io::large_buffer();
     let n = io::read_full(text::IN, &mut space);
-    run_lines(rt, &space[..n]);
-    0
+    for line in space[..n].split_inclusive(|b| *b == b'\n') {
+        run_script_line(
+            rt,
+            text::first(line, text::find(line, 0, line.len(), b'\n')),
+        );
+    }
 }

@@ -5,14 +5,14 @@ use Rattle.checksum.specs.Checksum.{remainder_byte}
 use Rattle.checksum.proofs.Bit.{shift-step, shift-end}
 use Rattle.checksum.proofs.remainder_byte.Goals as goal
 
-pub loop-k-init : goal.loop-k-init
+pub loop-init : goal.loop-init
 unfolding remainder_byte
-loop-k-init c = (omega arith, refl)
+loop-init c = refl
 
-pub loop-k-preserved : goal.loop-k-preserved
-loop-k-preserved c = let l = c.loop-k in
-    (omega arith, rw c.shift_bit-x.ensures (shift-step l.x l.k (omega arith) ∙ l.invariant.1))
+pub loop-preserved : goal.loop-preserved
+loop-preserved c = let l = c.loop in
+    rw c.shift_bit-x.ensures (shift-step l.x l.counter (omega arith) ∙ l.invariant)
 
 pub returns : goal.returns
-returns c = let l = c.loop-k in
-    sym (shift-end l.x l.k (omega arith)) ∙ l.invariant.1
+returns c = let l = c.loop in
+    sym (shift-end l.x l.counter (omega arith)) ∙ l.invariant

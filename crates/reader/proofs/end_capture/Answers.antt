@@ -1,14 +1,15 @@
 -- `reader::end_capture` meets its contract: memory holds no state, or the end of the reading decides. Assumes nothing.
-use Rattle.std.proofs.Common.{◌≡◌, ℕ, ◌≤◌, true, false, length, get_or, sym, refl, ap, ◌∙◌, subst, w8, Fits, rules}
-use borrow.Author.Tests.{not-true, not-false}
-use Rattle.telegram.specs.Numbers.{Reason, refused, done}
+use Rattle.std.proofs.Common.{◌≡◌, ℕ, ◌≤◌, Result, Ok, length, get_or, sym, refl, ap, ◌∙◌, subst, w8, Fits, rules}
+use Rattle.telegram.specs.Numbers.{Reason, Outcome, refused, done}
 use Rattle.telegram.proofs.Outcomes.{never, refused-one}
-use Rattle.capture.specs.declared.Step.{Step}
+use Rattle.telegram.specs.declared.Refusal.{Refusal}
+use Rattle.capture.specs.declared.Reply.{Reply as Told}
+use Rattle.capture.specs.declared.Reply.TheVariants.{Telegram, More, Ended}
 use Rattle.capture.specs.State.{state_of}
-use Rattle.capture.specs.Calls.{Reply, Closed, step_as, closing_as}
-use Rattle.reader.specs.Layout.{state_in}
+use Rattle.capture.specs.Calls.{Reply, telegram, more, over, Closed, answer_as, closing_as}
+use Rattle.reader.specs.Layout.{state_in, held_as}
 use Rattle.reader.specs.Interface.{end_answering, reader_end}
-use Rattle.reader.proofs.States.{state-long, held-by}
+use Rattle.reader.proofs.States.{state-long}
 use Rattle.reader.proofs.Few.{end-few}
 use Rattle.reader.proofs.Holding.{held-sums}
 use Rattle.reader.proofs.Exits.{end_none, end-told, ended}
@@ -16,77 +17,69 @@ use Rattle.reader.proofs.end_capture.Goals as goal
 use Rattle.reader.proofs.end_capture.Goals.{After-end_run-c}
 
 -- what was read out of memory
-holds : (c : After-end_run-c) → state_in c.args.reader.now ≡ done (state_of c.read_state-held.result.reading)
-holds c = held-by _ _ true c.read_state-held.ensures (not-false _ c.if-not-held.false)
+holds : (c : After-end_run-c) → state_in c.args.reader.now ≡ done (state_of c.in-Some.carried)
+holds c = sym c.read_state.ensures ∙ ap held_as c.in-Some.is
 
-long : (c : After-end_run-c) → length c.read_state-held.result.reading.bytes ≡ 12
+long : (c : After-end_run-c) → length c.in-Some.carried.bytes ≡ 12
 long c = search rules
 
-byte : (c : After-end_run-c) (k : ℕ) → Fits w8 (get_or c.read_state-held.result.reading.bytes k 0)
+byte : (c : After-end_run-c) (k : ℕ) → Fits w8 (get_or c.in-Some.carried.bytes k 0)
 byte c k = search rules
 
 -- what is kept fits
-few : (c : After-end_run-c) → (step_as c.end_run-c.result.step ≡ refused 11 → ⊥) → c.end_run-c.result.reading.count ≤ 11
+few : (c : After-end_run-c) → (answer_as c.end_run-c.result.answer ≡ refused 11 → ⊥) → c.end_run-c.result.reading.count ≤ 11
 few c f =
     let e = c.end_run-c.ensures in
     subst (λ (n : ℕ). n ≤ 11) (sym (ap (λ (x : Closed). x.state.count) e))
-    (end-few (state_of c.read_state-held.result.reading) (long c) (λ i. (byte c i).fits)
+    (end-few (state_of c.in-Some.carried) (long c) (λ i. (byte c i).fits)
     (held-sums _ _ (holds c) (λ i. search rules)) (λ z. f (ap (λ (x : Closed). x.answer) e ∙ z)))
 
 enough : (c : After-end_run-c) → 21 ≤ length c.args.reader.now
 enough c = state-long _ _ (holds c)
 
 -- the end by what the reading answered
-by : (c : After-end_run-c) (k : Step) → c.end_run-c.result.step ≡ k
+by : (c : After-end_run-c) (k : Result Told Refusal) → c.end_run-c.result.answer ≡ k
     → let mem = c.args.reader.now in
-    end_answering (step_as k) (state_of c.end_run-c.result.reading) mem ≡ end_answering (step_as c.end_run-c.result.step) (state_of c.end_run-c.result.reading) mem
-by c k e = ap (λ (x : Step). end_answering (step_as x) (state_of c.end_run-c.result.reading) c.args.reader.now) (sym e)
+    end_answering (answer_as k) (state_of c.end_run-c.result.reading) mem ≡ end_answering (answer_as c.end_run-c.result.answer) (state_of c.end_run-c.result.reading) mem
+by c k e = ap (λ (x : Result Told Refusal). end_answering (answer_as x) (state_of c.end_run-c.result.reading) c.args.reader.now) (sym e)
 
-told : (c : After-end_run-c) (k : Step) → c.end_run-c.result.step ≡ k
+told : (c : After-end_run-c) (k : Result Told Refusal) → c.end_run-c.result.answer ≡ k
     → let mem = c.args.reader.now in
-    end_answering (step_as k) (state_of c.end_run-c.result.reading) mem ≡ reader_end mem
+    end_answering (answer_as k) (state_of c.end_run-c.result.reading) mem ≡ reader_end mem
 told c k e = by c k e ∙ end-told _ _ (closing_as c.end_run-c.result) (holds c) c.end_run-c.ensures
 
 -- a reply: what is kept fits
-kept : (c : After-end_run-c) {r : Reply} → step_as c.end_run-c.result.step ≡ done r
+kept : (c : After-end_run-c) {r : Reply} → answer_as c.end_run-c.result.answer ≡ done r
     → (c.end_run-c.result.reading.count ≤ 11) × (21 ≤ length c.args.reader.now)
 kept c e = (few c (λ z. never (sym z ∙ e)), enough c)
 
-pub returns-then-not-held : goal.returns-then-not-held
-returns-then-not-held c =
-    let p = ended (end_none _ (held-by _ _ false c.read_state-held.ensures (not-true _ c.if-not-held.true))) refl refl in
+pub returns-in_default : goal.returns-in_default
+returns-in_default c =
+    let p = ended (end_none _ (sym c.read_state.ensures ∙ ap held_as c.in_default.is)) refl refl in
     record { value = p.0; reader_after = p.1 }
 
+-- whatever a reply is, it is done
+reply : (x : Told) → (r : Reply) × (answer_as (Ok x) ≡ done r)
+reply (Telegram t) = (telegram t, refl)
+reply More = (more, refl)
+reply Ended = (over, refl)
+
 pub keep_done-requires : goal.keep_done-requires
-keep_done-requires c = kept (goal.at.keep_done-requires c).After-end_run-c (ap step_as c.in-Telegram.is)
-
-pub keep_done-requires-in-More : goal.keep_done-requires-in-More
-keep_done-requires-in-More c = kept (goal.at.keep_done-requires-in-More c).After-end_run-c (ap step_as c.in-More.is)
-
-pub keep_done-requires-in-Ended : goal.keep_done-requires-in-Ended
-keep_done-requires-in-Ended c = kept (goal.at.keep_done-requires-in-Ended c).After-end_run-c (ap step_as c.in-Ended.is)
+keep_done-requires c = kept (goal.at.keep_done-requires c).After-end_run-c (ap answer_as c.in-Ok.is ∙ (reply c.in-Ok.field-0).1)
 
 pub refuse_kept-requires : goal.refuse_kept-requires
 refuse_kept-requires c =
     let q = (goal.at.refuse_kept-requires c).After-end_run-c in
-    (λ n. few q (λ z. n (ap (λ (x : Reason). x.number) (refused-one (sym (ap step_as c.in-Refused.is) ∙ z)))), enough q)
+    (λ n. few q (λ z. n (ap (λ (x : Reason). x.number) (refused-one (sym (ap answer_as c.in-Err.is) ∙ z)))), enough q)
 
-pub returns-in-Telegram : goal.returns-in-Telegram
-returns-in-Telegram c =
-    let p = ended (told (goal.at.returns-in-Telegram c).After-end_run-c _ c.in-Telegram.is) c.keep_done.ensures.value c.keep_done.ensures.reader_after in
+pub returns-in-Ok : goal.returns-in-Ok
+returns-in-Ok c =
+    let q = (goal.at.returns-in-Ok c).After-end_run-c in
+    let e = ap (λ (o : Outcome Reply). end_answering o (state_of c.end_run-c.result.reading) c.args.reader.now) (reply c.in-Ok.field-0).1 in
+    let p = ended (sym e ∙ told q _ c.in-Ok.is) c.keep_done.ensures.value c.keep_done.ensures.reader_after in
     record { value = p.0; reader_after = p.1 }
 
-pub returns-in-More : goal.returns-in-More
-returns-in-More c =
-    let p = ended (told (goal.at.returns-in-More c).After-end_run-c _ c.in-More.is) c.keep_done-in-More.ensures.value c.keep_done-in-More.ensures.reader_after in
-    record { value = p.0; reader_after = p.1 }
-
-pub returns-in-Ended : goal.returns-in-Ended
-returns-in-Ended c =
-    let p = ended (told (goal.at.returns-in-Ended c).After-end_run-c _ c.in-Ended.is) c.keep_done-in-Ended.ensures.value c.keep_done-in-Ended.ensures.reader_after in
-    record { value = p.0; reader_after = p.1 }
-
-pub returns-in-Refused : goal.returns-in-Refused
-returns-in-Refused c =
-    let p = ended (told (goal.at.returns-in-Refused c).After-end_run-c _ c.in-Refused.is) c.refuse_kept.ensures.value c.refuse_kept.ensures.reader_after in
+pub returns-in-Err : goal.returns-in-Err
+returns-in-Err c =
+    let p = ended (told (goal.at.returns-in-Err c).After-end_run-c _ c.in-Err.is) c.refuse_kept.ensures.value c.refuse_kept.ensures.reader_after in
     record { value = p.0; reader_after = p.1 }

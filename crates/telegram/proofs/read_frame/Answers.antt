@@ -11,14 +11,14 @@ use Rattle.telegram.proofs.read_frame.Goals as goal
 pub returns-then-n-lt4 : goal.returns-then-n-lt4
 returns-then-n-lt4 c = frame-short _ c.if-n-lt4.true
 
-pub returns-then-preamble-ne10 : goal.returns-then-preamble-ne10
-returns-then-preamble-ne10 c = frame-preamble _ (omega arith) c.if-preamble-ne10.true
+pub returns-then-b0-ne10 : goal.returns-then-b0-ne10
+returns-then-b0-ne10 c = frame-preamble _ (omega arith) c.if-b0-ne10.true
 
 pub returns-then-index-eq5 : goal.returns-then-index-eq5
 returns-then-index-eq5 c = frame-index _ (omega arith) (omega arith) (omega arith)
 
-pub returns-then-n-count : goal.returns-then-n-count
-returns-then-n-count c = frame-count _ (omega arith) (omega arith) (λ e. c.if-index-eq5.false (omega arith)) (λ e. c.if-n-count.true (cc))
+pub returns-then-n-size : goal.returns-then-n-size
+returns-then-n-size c = frame-count _ (omega arith) (omega arith) (λ e. c.if-index-eq5.false (omega arith)) (λ e. c.if-n-size.true (cc))
 
 pub returns : goal.returns
 returns c = let s = c.args.s.now in

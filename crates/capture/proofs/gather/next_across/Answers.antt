@@ -27,11 +27,11 @@ gathered b l n m h g k e =
 -- the bytes that the next telegram is taken from, and how many of the chunk they are
 taken : (c : After-placed-bytes)
     → let a = c.args in
-    let b = carried_in (state_of a.carried) ++ take c.smaller-m.result (drop a.at a.chunk.now) in
-    (take (a.carried.count + c.smaller-m.result) c.placed-bytes.result ≡ b) × (length b ≡ a.carried.count + c.smaller-m.result)
+    let b = carried_in (state_of a.carried) ++ take c.min-m.result (drop a.at a.chunk.now) in
+    (take (a.carried.count + c.min-m.result) c.placed-bytes.result ≡ b) × (length b ≡ a.carried.count + c.min-m.result)
 taken c =
     let a = c.args in
-    let k = c.smaller-m.result in
+    let k = c.min-m.result in
     let l = drop a.at a.chunk.now in
     let d : length l ≡ length a.chunk.now - a.at = length-drop a.at a.chunk.now in
     let e : a.at + k - a.at ≡ k = omega arith in (
@@ -45,13 +45,13 @@ counted c = carried-count (state_of c.args.carried) (long c) c.requires.0
 
 asked : (c : After-placed-bytes)
     → let a = c.args in
-    let n = a.carried.count + c.smaller-m.result in
+    let n = a.carried.count + c.min-m.result in
     let r = c.placed-bytes.result in
     (a.carried.count ≤ n) × (n ≤ 12) × (padded (take n r) ≡ r) × (cutting (take a.carried.count r) ≡ incomplete) × (a.at + (n - a.carried.count) < 18446744073709551616)
 asked c =
     let a = c.args in
     let s = state_of a.carried in
-    let k = c.smaller-m.result in
+    let k = c.min-m.result in
     let l = drop a.at a.chunk.now in
     let r = c.placed-bytes.result in
     let t = taken c in
@@ -85,7 +85,7 @@ next_in-requires c = asked (goal.at.next_in-requires c).After-placed-bytes
 
 pub returns : goal.returns
 returns c = let a = c.args in
-    let k = c.smaller-m.result in
+    let k = c.min-m.result in
     let s = state_of a.carried in
     let l = drop a.at a.chunk.now in
     let u = take (a.carried.count + k) c.placed-bytes.result in
@@ -96,4 +96,4 @@ returns c = let a = c.args in
     c.next_in.ensures
     ∙ ap (λ (n : ℕ). next_cut (cutting u) u n s a.at) e
     ∙ ap (λ (x : List ℕ). next_cut (cutting x) x k s a.at) t.0
-    ∙ up-to-twelve (carried_in s) l (each (goal.at.returns c).After-placed-bytes) (omega (arith, (left _ c.requires.0).few)) s a.at k (rw (g, d) c.smaller-m.ensures.0)
+    ∙ up-to-twelve (carried_in s) l (each (goal.at.returns c).After-placed-bytes) (omega (arith, (left _ c.requires.0).few)) s a.at k (rw (g, d) c.min-m.ensures)

@@ -20,7 +20,7 @@ counted l n h k = length-take-le n l (omega arith)
 
 -- what they show, by what the code was told
 full : (c : In-Whole) → cutting (take c.args.n c.args.bytes) ≡ whole c.in-Whole.k
-full c = sym c.cut_first-shown.ensures ∙ ap cut_as c.in-Whole.is
+full c = sym c.cut_first.ensures ∙ ap cut_as c.in-Whole.is
 
 enough : (c : In-Whole) → c.in-Whole.k ≤ c.args.n
 enough c =
@@ -65,7 +65,7 @@ next_whole-requires c = telegram (goal.at.next_whole-requires c).In-Whole
 pub returns-in-Broken : goal.returns-in-Broken
 returns-in-Broken c = let a = c.args in
     let e : Refusal = c.in-Broken.e in
-    let q : cutting (take a.n a.bytes) ≡ broken (number_of e) = sym c.cut_first-shown.ensures ∙ ap cut_as c.in-Broken.is in
+    let q : cutting (take a.n a.bytes) ≡ broken (number_of e) = sym c.cut_first.ensures ∙ ap cut_as c.in-Broken.is in
     c.stop.ensures
     ∙ ap (λ (d : Reason). without (refused_for d) a.at (resting (stopped_for d) a.carried.position)) (broken-bare (take a.n a.bytes) e q)
     ∙ by (take a.n a.bytes) (a.n - a.carried.count) (state_of a.carried) a.at (broken (number_of e)) q

@@ -1,8 +1,8 @@
 -- `capture::gather::next_whole` meets its contract: what the telegram reader refuses stops the reading, what it accepts is given.
 -- Assumes nothing.
 use Rattle.std.proofs.Common.{◌≡◌, ℕ, ◌+◌, ◌-◌, List, length, sym, ap, ◌∙◌, ap₂}
-use Rattle.telegram.specs.Numbers.{Outcome, done}
-use Rattle.telegram.specs.Telegram.{read_as, reading}
+use Rattle.telegram.specs.Numbers.{Outcome, done, outcome_of}
+use Rattle.telegram.specs.Telegram.{reading}
 use Rattle.telegram.specs.declared.Telegram.{Telegram}
 use Rattle.capture.specs.State.{State, state_of}
 use Rattle.capture.specs.Calls.{telegram, Given, next_judged}
@@ -17,7 +17,7 @@ pub returns : goal.returns
 returns c =
     let a = c.args in
     let s = a.s.now in
-    let e : reading s ≡ done c.in-Accepted.t = sym c.read_telegram-r.ensures ∙ ap read_as c.in-Accepted.is in
-    ap₂ (λ (b : List ℕ) (x : State). answer c.in-Accepted.t b (a.at + (length s - a.carried.count)) x) (c.placed.ensures ∙ padded-over s)
+    let e : reading s ≡ done c.in-Ok.t = sym c.read_telegram-r.ensures ∙ ap outcome_of c.in-Ok.is in
+    ap₂ (λ (b : List ℕ) (x : State). answer c.in-Ok.t b (a.at + (length s - a.carried.count)) x) (c.placed.ensures ∙ padded-over s)
     c.resting.ensures
     ∙ sym (ap (λ (o : Outcome Telegram). next_judged o s (length s) (state_of a.carried) a.at) e)

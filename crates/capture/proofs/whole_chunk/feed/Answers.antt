@@ -20,8 +20,8 @@ byte c k = search rules
 pub returns : goal.returns
 returns c = let a = c.args in
     let s = state_of a.s in
-    let e : state_of c.next_open-next.result.reading ≡ fed s a.b =
-    ap (λ (g : Given). g.state) c.next_open-next.ensures ∙ fed-next s a.b c.requires.1 1 0 in
+    let e : state_of c.next_open.result.reading ≡ fed s a.b =
+    ap (λ (g : Given). g.state) c.next_open.ensures ∙ fed-next s a.b c.requires.1 1 0 in
     let none = subst (λ (k : Standing). Bytes (checksums_in k)) (sym c.requires.1) bytes-none in
     let t : Taken s = record { long = long (goal.at.returns c).Start; each = λ i. (byte (goal.at.returns c).Start i).fits; sums = none; leaves = c.requires.0 } in
     (e, ap is_left e ∙ (taken-fed s a.b t (omega arith)).leaves)

@@ -1,6 +1,6 @@
 -- `capture::whole_chunk::scan_open` meets its contract: what was counted, with the telegrams in the bytes left, are those of the chunk,
 -- and the bytes left lead to the same state. Assumes nothing.
-use Rattle.std.proofs.Common.{◌≡◌, ℕ, ◌+◌, List, length, get_or, drop, sym, ap, ◌∙◌, subst, arith}
+use Rattle.std.proofs.Common.{◌≡◌, ℕ, ◌+◌, List, length, get_or, drop, sym, ap, ◌∙◌, subst, ⊎_elim, arith}
 use Rattle.capture.specs.declared.Reading.{Reading}
 use Rattle.capture.specs.State.{going, standing_of, State, state_of}
 use Rattle.capture.specs.Run.{fed, given, run, telegrams_in}
@@ -32,7 +32,8 @@ halting c final =
     let q = sym w.0 ∙ sym (run-next chunk l.i (omega arith) s z e) ∙ l.invariant.6 ∙ t.invariant.6 in
     (omega (arith, a, b, w.1, l.invariant.5, t.invariant.5), (ap (λ (x : State). x.position) q, q))
 
-pub returns-in-Stopped : goal.returns-in-Stopped
-returns-in-Stopped c =
-    let h = halting (goal.at.returns-in-Stopped c).After-feed-s (subst Final (sym (ap standing_of c.in-Stopped.is)) tt) in
+pub returns-in-Ended : goal.returns-in-Ended
+returns-in-Ended c =
+    let final = ⊎_elim (λ e. subst Final (sym (ap standing_of e)) tt) (λ e. subst Final (sym (ap standing_of e.1)) tt) c.in-Ended.is in
+    let h = halting (goal.at.returns-in-Ended c).After-feed-s final in
     record { telegrams_value = h.0; position_value = h.1 }

@@ -13,10 +13,10 @@ pub returns-then-heeds : goal.returns-then-heeds
 unfolding acted
 returns-then-heeds c = let a = c.args in
     c.alter.ensures
-    ∙ ap (with_lamp a.mem.now a.p.0) (picked (λ (l : Lamp). obeys a.n l.state) (changed a.d (command_in a.n a.payload.now)) c.load_lamp-l.ensures c.heeds.ensures c.if-heeds.true)
+    ∙ ap (with_lamp a.mem.now a.p.0) (picked (λ (l : Lamp). obeys a.order.number l.state) (changed a.d (command_in a.order.number a.order.payload.now)) c.load_lamp.ensures c.heeds.ensures c.if-heeds.true)
 
 pub returns-else-heeds : goal.returns-else-heeds
 unfolding acted
 returns-else-heeds c = let a = c.args in
-    sym (with-self a.mem.now a.p.0 (search rules) c.requires.0)
-    ∙ ap (with_lamp a.mem.now a.p.0) (passed-by (λ (l : Lamp). obeys a.n l.state) (changed a.d (command_in a.n a.payload.now)) c.load_lamp-l.ensures c.heeds.ensures c.if-heeds.false)
+    sym (with-self a.mem.now a.p.0 (search rules) c.requires)
+    ∙ ap (with_lamp a.mem.now a.p.0) (passed-by (λ (l : Lamp). obeys a.order.number l.state) (changed a.d (command_in a.order.number a.order.payload.now)) c.load_lamp.ensures c.heeds.ensures c.if-heeds.false)

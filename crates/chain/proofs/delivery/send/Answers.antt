@@ -13,30 +13,30 @@ use Rattle.chain.proofs.delivery.send.Goals as goal
 use Rattle.chain.proofs.delivery.send.Goals.{Else-is_init, Then-is_init}
 
 -- it is an init
-init : (c : Then-is_init) → is_init c.args.n ≡ true
+init : (c : Then-is_init) → is_init c.args.order.number ≡ true
 init c = sym c.is_init.ensures ∙ c.if-is_init.true
 
 -- no init: the walk by the cast
 plain : {cast : Cast} (c : Else-is_init) → let a = c.args in
-    a.cast ≡ cast → reached_in a.mem.now (command_in a.n a.payload.now) cast ≡ walked_in a.mem.now (sent_in a.n a.payload.now a.cast)
+    a.order.cast ≡ cast → reached_in a.mem.now (command_in a.order.number a.order.payload.now) cast ≡ walked_in a.mem.now (sent_in a.order.number a.order.payload.now a.order.cast)
 plain c e =
     let a = c.args in
-    ap (reached_in a.mem.now (command_in a.n a.payload.now)) (sym e)
-    ∙ sym (walked-plain a.mem.now (sent_in a.n a.payload.now a.cast) (sym c.is_init.ensures ∙ c.if-is_init.false))
+    ap (reached_in a.mem.now (command_in a.order.number a.order.payload.now)) (sym e)
+    ∙ sym (walked-plain a.mem.now (sent_in a.order.number a.order.payload.now a.order.cast) (sym c.is_init.ensures ∙ c.if-is_init.false))
 
 pub initialise-requires : goal.initialise-requires
 initialise-requires c = let p = c.requires in
     let a = c.args in
     let i = init (goal.at.initialise-requires c).Then-is_init in
-    (p.0, i, p.2, permit-alike (decode a.mem.now).lamps a.n a.payload.now a.cast i p.4, p.5)
+    (p.0, i, permit-alike (decode a.mem.now).lamps a.order.number a.order.payload.now a.order.cast i p.1)
 
 pub returns-then-is_init : goal.returns-then-is_init
 returns-then-is_init c = let a = c.args in
-    told-as a.mem.now a.room.now (sym (walked-init a.mem.now (sent_in a.n a.payload.now a.cast) (init (goal.at.returns-then-is_init c).Then-is_init))) c.initialise.ensures
+    told-as a.mem.now a.room.now (sym (walked-init a.mem.now (sent_in a.order.number a.order.payload.now a.order.cast) (init (goal.at.returns-then-is_init c).Then-is_init))) c.initialise.ensures
 
 pub returns-in-Everyone : goal.returns-in-Everyone
 returns-in-Everyone c = let a = c.args in
-    told-as a.mem.now a.room.now (plain (goal.at.returns-in-Everyone c).Else-is_init c.in-Everyone.is) (reached-done a.mem.now (command_in a.n a.payload.now) All a.room.now c.spread.ensures)
+    told-as a.mem.now a.room.now (plain (goal.at.returns-in-Everyone c).Else-is_init c.in-Everyone.is) (reached-done a.mem.now (command_in a.order.number a.order.payload.now) All a.room.now c.spread.ensures)
 
 pub returns-in-One : goal.returns-in-One
 returns-in-One c = let a = c.args in
@@ -44,4 +44,4 @@ returns-in-One c = let a = c.args in
 
 pub returns-in-Group : goal.returns-in-Group
 returns-in-Group c = let a = c.args in
-    told-as a.mem.now a.room.now (plain (goal.at.returns-in-Group c).Else-is_init c.in-Group.is) (reached-done a.mem.now (command_in a.n a.payload.now) (Members c.in-Group.g) a.room.now c.spread-in-Group.ensures)
+    told-as a.mem.now a.room.now (plain (goal.at.returns-in-Group c).Else-is_init c.in-Group.is) (reached-done a.mem.now (command_in a.order.number a.order.payload.now) (Members c.in-Group.g) a.room.now c.spread-in-Group.ensures)

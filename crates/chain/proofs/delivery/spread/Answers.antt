@@ -24,13 +24,13 @@ valid c = chain-in _ _ c.requires.0
 -- what each lamp that a reach has does is the walk
 held : (c : After-defaults_of-d) (reach : Reach) →
     let a = c.args in
-    let m = command_in a.n a.payload.now in
+    let m = command_in a.order.number a.order.payload.now in
     sweep (λ (p : ℕ) (l : Lamp). acted_in reach c.defaults_of-d.result m l) 0 c.count_of-count.result a.mem.now
     ≡ held_after a.mem.now (reached_in a.mem.now m (cast_of reach))
 unfolding decode
 held c reach =
     let a = c.args in
-    let m = command_in a.n a.payload.now in
+    let m = command_in a.order.number a.order.payload.now in
     ap₂ (λ (d : Defaults) (n : ℕ). sweep (λ (p : ℕ) (l : Lamp). acted_in reach d m l) 0 n a.mem.now) c.defaults_of-d.ensures c.count_of-count.ensures
     ∙ spread-held a.mem.now (search rules) (chain-in _ _ c.requires.0) m reach
 
@@ -44,17 +44,17 @@ defaults_of-d-requires c = omega (arith, (valid (goal.at.defaults_of-d-requires 
 
 pub act_everyone-requires : goal.act_everyone-requires
 unfolding decode
-act_everyone-requires c = (omega (arith, (valid (goal.at.act_everyone-requires c).Start).room, c.count_of-count.ensures), c.requires.1)
+act_everyone-requires c = omega (arith, (valid (goal.at.act_everyone-requires c).Start).room, c.count_of-count.ensures)
 
 pub act_lamps-requires : goal.act_lamps-requires
 unfolding decode
-act_lamps-requires c = (omega (arith, (valid (goal.at.act_lamps-requires c).Start).room, c.count_of-count.ensures), c.requires.1, c.requires.2)
+act_lamps-requires c = (omega (arith, (valid (goal.at.act_lamps-requires c).Start).room, c.count_of-count.ensures), c.requires.1)
 
 pub returns-in-Everyone : goal.returns-in-Everyone
 unfolding decode
 returns-in-Everyone c = let a = c.args in
     c.act_everyone.ensures ∙ held (goal.at.returns-in-Everyone c).After-defaults_of-d All
-    ∙ ap (λ (r : Reach). held_after a.mem.now (reached_in a.mem.now (command_in a.n a.payload.now) (cast_of r))) (sym c.in-Everyone.is)
+    ∙ ap (λ (r : Reach). held_after a.mem.now (reached_in a.mem.now (command_in a.order.number a.order.payload.now) (cast_of r))) (sym c.in-Everyone.is)
 
 pub returns-in-Members : goal.returns-in-Members
 unfolding decode

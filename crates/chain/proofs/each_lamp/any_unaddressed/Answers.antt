@@ -6,19 +6,18 @@ use native.Mathlib.Omega.{arith}
 use mathlib.Core.Bool.{◌||◌}
 use Rattle.rules.specs.Chain.{any_unaddressed}
 use Rattle.chain.proofs.Places.{rest, rest_all, unaddressed-step, unaddressed-none}
-use borrow.Author.Rules.{rules}
 use Rattle.chain.proofs.each_lamp.any_unaddressed.Goals as goal
 
 pub loop-i-init : goal.loop-i-init
-loop-i-init c = (search rules, ap any_unaddressed (rest_all c.args.count c.args.mem.now))
+loop-i-init c = ap any_unaddressed (rest_all c.args.count c.args.mem.now)
 
 pub loop-i-preserved : goal.loop-i-preserved
 loop-i-preserved c = let l = c.loop-i in
     let a = c.args in
-    (omega arith, rw (c.or-any.ensures, c.load_address-a.ensures) (unaddressed-step l.any l.i a.count a.mem.now (omega arith) ∙ l.invariant.1))
+    rw c.load_address.ensures (unaddressed-step l.any l.i a.count a.mem.now (omega arith) ∙ l.invariant)
 
 pub returns : goal.returns
 returns c = let l = c.loop-i in
     let a = c.args in
     let e : a.count ≡ l.i = omega arith in
-    sym (unaddressed-none l.any l.i a.mem.now) ∙ ap (λ (n : ℕ). l.any || any_unaddressed (rest l.i n a.mem.now)) (sym e) ∙ l.invariant.1
+    sym (unaddressed-none l.any l.i a.mem.now) ∙ ap (λ (n : ℕ). l.any || any_unaddressed (rest l.i n a.mem.now)) (sym e) ∙ l.invariant

@@ -25,10 +25,10 @@ mark_lamps-requires c = omega (arith, (valid (goal.at.mark_lamps-requires c).Sta
 pub answer_last-requires : goal.answer_last-requires
 unfolding decode
 answer_last-requires c = let n = c.count_of-count.ensures in
-    (omega (arith, (valid (goal.at.answer_last-requires c).Start).some, n), omega (arith, (valid (goal.at.answer_last-requires c).Start).room, n, c.mark_lamps.auto.mem), omega arith, c.requires.2, c.requires.3)
+    (omega (arith, (valid (goal.at.answer_last-requires c).Start).some, n), omega (arith, (valid (goal.at.answer_last-requires c).Start).room, n, c.mark_lamps.auto.mem), omega arith)
 
 pub returns : goal.returns
 unfolding decode
 returns c = let a = c.args in
     let e = c.answer_last.ensures in
-    told (init-marks a.mem.now (search rules) (valid (goal.at.returns c).Start) a.n c.requires.1 a.room.now c.count_of-count.ensures c.mark_lamps.ensures e.answer e.room)
+    told (init-marks a.mem.now (search rules) (valid (goal.at.returns c).Start) a.order.number c.requires.1 a.room.now c.count_of-count.ensures c.mark_lamps.ensures e.answer e.room)

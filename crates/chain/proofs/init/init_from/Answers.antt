@@ -24,15 +24,15 @@ overflow_sub-last c = omega (arith, (valid (goal.at.overflow_sub-last c).Start).
 
 pub number_lamps-requires : goal.number_lamps-requires
 unfolding decode
-number_lamps-requires c = (omega (arith, (valid (goal.at.number_lamps-requires c).Start).room, c.count_of-count.ensures), omega (arith, c.requires.3, c.count_of-count.ensures))
+number_lamps-requires c = (omega (arith, (valid (goal.at.number_lamps-requires c).Start).room, c.count_of-count.ensures), omega (arith, c.requires.2, c.count_of-count.ensures))
 
 pub answer_last-requires : goal.answer_last-requires
 unfolding decode
 answer_last-requires c = let n = c.count_of-count.ensures in
-    (omega (arith, (valid (goal.at.answer_last-requires c).Start).some, n), omega (arith, (valid (goal.at.answer_last-requires c).Start).room, n, c.number_lamps.auto.mem), omega (arith, c.requires.3, n), c.requires.2, c.requires.4)
+    (omega (arith, (valid (goal.at.answer_last-requires c).Start).some, n), omega (arith, (valid (goal.at.answer_last-requires c).Start).room, n, c.number_lamps.auto.mem), omega (arith, c.requires.2, n))
 
 pub returns : goal.returns
 unfolding decode
 returns c = let a = c.args in
     let e = c.answer_last.ensures in
-    told (init-numbers a.mem.now (search rules) (valid (goal.at.returns c).Start) a.n c.requires.1 a.first a.room.now c.count_of-count.ensures c.number_lamps.ensures e.answer e.room)
+    told (init-numbers a.mem.now (search rules) (valid (goal.at.returns c).Start) a.order.number c.requires.1 a.first a.room.now c.count_of-count.ensures c.number_lamps.ensures e.answer e.room)

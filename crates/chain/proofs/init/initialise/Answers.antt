@@ -16,16 +16,16 @@ use Rattle.chain.proofs.init.initialise.Goals.{Start}
 
 -- it is permitted, as the cast that it has
 permitted : {cast : Cast} (c : Start) → let a = c.args in
-    a.cast ≡ cast → permitting (decode a.mem.now).lamps (init_of a.n cast) ≡ done (init_of a.n cast)
+    a.order.cast ≡ cast → permitting (decode a.mem.now).lamps (init_of a.order.number cast) ≡ done (init_of a.order.number cast)
 permitted c e = let a = c.args in
-    subst (λ (x : Cast). permitting (decode a.mem.now).lamps (init_of a.n x) ≡ done (init_of a.n x)) e c.requires.3
+    subst (λ (x : Cast). permitting (decode a.mem.now).lamps (init_of a.order.number x) ≡ done (init_of a.order.number x)) e c.requires.2
 
 pub init_from-requires : goal.init_from-requires
 unfolding decode
 init_from-requires c = let a = c.args in
     let first = c.in-One.first in
-    let f = permitted-fits (decode a.mem.now).lamps (init_of a.n (One first)) first (permitted (goal.at.init_from-requires c).Start c.in-One.is) c.requires.1 refl in
-    (c.requires.0, c.requires.1, c.requires.2, omega (arith, f, length-lamps_in (count_of a.mem.now) a.mem.now), c.requires.4)
+    let f = permitted-fits (decode a.mem.now).lamps (init_of a.order.number (One first)) first (permitted (goal.at.init_from-requires c).Start c.in-One.is) c.requires.1 refl in
+    (c.requires.0, c.requires.1, omega (arith, f, length-lamps_in (count_of a.mem.now) a.mem.now))
 
 pub returns-in-Group : goal.returns-in-Group
 unfolding decode

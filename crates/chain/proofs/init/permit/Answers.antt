@@ -10,24 +10,24 @@ use Rattle.chain.proofs.init.permit.Goals as goal
 use Rattle.chain.proofs.init.permit.Goals.{Else-not-is_init}
 
 -- it is an init
-init : (c : Else-not-is_init) → is_init c.args.n ≡ true
+init : (c : Else-not-is_init) → is_init c.args.order.number ≡ true
 init c = sym c.is_init.ensures ∙ c.if-not-is_init.false
 
 pub returns-then-not-is_init : goal.returns-then-not-is_init
 returns-then-not-is_init c = let a = c.args in
-    λ p. permit-plain (decode a.mem.now).lamps a.n p a.cast (sym c.is_init.ensures ∙ c.if-not-is_init.true)
+    permit-plain (decode a.mem.now).lamps a.order.number a.order.payload.now a.order.cast (sym c.is_init.ensures ∙ c.if-not-is_init.true)
 
 pub returns-in-Everyone : goal.returns-in-Everyone
 returns-in-Everyone c = let a = c.args in
     let xs = (decode a.mem.now).lamps in
-    λ p. c.permit_all.ensures (sent_in a.n p a.cast) ∙ ap (permitting_init xs (sent_in a.n p a.cast)) (sym c.in-Everyone.is) ∙ permit-init xs a.n p a.cast (init (goal.at.returns-in-Everyone c).Else-not-is_init)
+    c.permit_all.ensures (sent_in a.order.number a.order.payload.now a.order.cast) ∙ ap (permitting_init xs (sent_in a.order.number a.order.payload.now a.order.cast)) (sym c.in-Everyone.is) ∙ permit-init xs a.order.number a.order.payload.now a.order.cast (init (goal.at.returns-in-Everyone c).Else-not-is_init)
 
 pub returns-in-One : goal.returns-in-One
 returns-in-One c = let a = c.args in
     let xs = (decode a.mem.now).lamps in
-    λ p. c.permit_from.ensures (sent_in a.n p a.cast) ∙ ap (permitting_init xs (sent_in a.n p a.cast)) (sym c.in-One.is) ∙ permit-init xs a.n p a.cast (init (goal.at.returns-in-One c).Else-not-is_init)
+    c.permit_from.ensures (sent_in a.order.number a.order.payload.now a.order.cast) ∙ ap (permitting_init xs (sent_in a.order.number a.order.payload.now a.order.cast)) (sym c.in-One.is) ∙ permit-init xs a.order.number a.order.payload.now a.order.cast (init (goal.at.returns-in-One c).Else-not-is_init)
 
 pub returns-in-Group : goal.returns-in-Group
 returns-in-Group c = let a = c.args in
     let xs = (decode a.mem.now).lamps in
-    λ p. ap (permitting_init xs (sent_in a.n p a.cast)) (sym c.in-Group.is) ∙ permit-init xs a.n p a.cast (init (goal.at.returns-in-Group c).Else-not-is_init)
+    ap (permitting_init xs (sent_in a.order.number a.order.payload.now a.order.cast)) (sym c.in-Group.is) ∙ permit-init xs a.order.number a.order.payload.now a.order.cast (init (goal.at.returns-in-Group c).Else-not-is_init)

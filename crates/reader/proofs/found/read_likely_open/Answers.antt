@@ -1,7 +1,6 @@
 -- `reader::found::read_likely_open` meets its contract. Assumes nothing.
-use Rattle.std.proofs.Common.{◌∙◌}
 use Rattle.reader.proofs.States.{state-short}
 use Rattle.reader.proofs.found.read_likely_open.Goals as goal
 
 pub returns-then-mem-lt21 : goal.returns-then-mem-lt21
-returns-then-mem-lt21 c = c.no_state.ensures ∙ state-short _ c.if-mem-lt21.true
+returns-then-mem-lt21 c = state-short _ c.if-mem-lt21.true

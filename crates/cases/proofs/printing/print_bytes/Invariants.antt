@@ -1,6 +1,0 @@
--- The index only grows.
-use Rattle.std.proofs.Common.{◌-◌, length}
-use Rattle.cases.proofs.printing.print_bytes.Given as goal
-
-abbrev pub decreases-loop-i : goal.decreases-loop-i
-decreases-loop-i l = length l.s - l.i

@@ -1,5 +1,0 @@
--- The turns left only shrink.
-use Rattle.raw.proofs.do_turns.Given as goal
-
-abbrev pub decreases-loop-turns : goal.decreases-loop-turns
-decreases-loop-turns g l = l.turns

@@ -1,5 +1,0 @@
--- The bytes left only shrink.
-use Rattle.raw.proofs.read_chunk.Given as goal
-
-abbrev pub decreases-loop-left : goal.decreases-loop-left
-decreases-loop-left l = l.left

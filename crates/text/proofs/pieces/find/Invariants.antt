@@ -1,6 +1,0 @@
--- The byte was not there so far.
-use Rattle.std.proofs.Common.{◌≡◌, ℕ, ◌<◌, ◌≤◌, get_or}
-use Rattle.text.proofs.pieces.find.Given as goal
-
-abbrev pub invariant-loop-i : goal.invariant-loop-i
-invariant-loop-i l = (k : ℕ) → l.at ≤ k → k < l.i → get_or l.s k 0 ≡ l.b → ⊥

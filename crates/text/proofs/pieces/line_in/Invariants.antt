@@ -1,6 +1,0 @@
--- Each turn goes a line on.
-use Rattle.std.proofs.Common.{◌-◌}
-use Rattle.text.proofs.pieces.line_in.Given as goal
-
-abbrev pub decreases-loop-at : goal.decreases-loop-at
-decreases-loop-at l = l.n - l.at

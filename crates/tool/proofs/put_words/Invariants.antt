@@ -1,6 +1,0 @@
--- The index only grows.
-use Rattle.std.proofs.Common.{◌-◌, length}
-use Rattle.tool.proofs.put_words.Given as goal
-
-abbrev pub decreases-loop-i : goal.decreases-loop-i
-decreases-loop-i l = length l.line - l.i
