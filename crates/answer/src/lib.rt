@@ -23,7 +23,7 @@ pub enum Acknowledged {
     SetPwm,
 }
 
-// The answers to the commands that have one, with their values.
+// The answers to the commands that have one, with their values, one by one as the definitions have them.
 #[derive(Clone, Copy)]
 pub enum Answer {
     InitBidir(u8, u8),
@@ -107,7 +107,8 @@ fn answer_of(n: u8, p: &[u8]) -> Answer
     }
 }
 
-// Whether an answer to a number may come from an address: 001 to 3EF, for 02 and 03 also 000.
+// Whether an answer to a number may come from an address: 001 to 3EF, for 02 and 03, the inits, also 000. (The rules that name them lie
+// above this crate.)
 fn answer_address(n: u8, a: u16) -> bool
     ensures { result ≡ answer_address n a }
 {
@@ -123,9 +124,7 @@ fn name_answer(s: &[u8], t: Telegram) -> Result<Answered, Refusal>
     requires { 3 + t.size ≤ length s.now }
     ensures { reply_as result ≡ naming_answer s.now t }
 {
-    let Some(row) = table::row_of(t.command) else {
-        return Err(Refusal::UnknownCommand);
-    };
+    let row = table::row_of(t.command).ok_or(Refusal::UnknownCommand)?;
     if row.answer == 0 {
         return Err(Refusal::UnknownCommand);
     }
@@ -141,7 +140,7 @@ fn name_answer(s: &[u8], t: Telegram) -> Result<Answered, Refusal>
     })
 }
 
-// The answer dissector. Refusals 1 to 8.
+// The answer dissector. Refusals 1 to 8. (`let .. else` where `?` could stand: a form that document 01 names.)
 #[tactic(auto, unfolding(crate::specs::Answers::dissecting_answer))]
 pub fn dissect_answer(s: &[u8]) -> Result<Answered, Refusal>
     ensures { reply_as result ≡ dissecting_answer s.now }

@@ -6,13 +6,9 @@ use telegram::Address;
 use text::reading::{Words, address_of, decimal_of, hex_at};
 use text::{Page, first, from};
 
-// What an address stands for: everyone, a group, or one lamp, which the builder tests.
-fn cast_of(value: u32) -> Cast {
-    match value {
-        0 => Cast::Everyone,
-        0x3F0..=0x3FE => Cast::Group((value - 0x3F0) as u8),
-        _ => Cast::One(Address((value % 65536) as u16)),
-    }
+// What an address stands for; one that is no destination is taken as one lamp's, which the builder refuses.
+fn cast_of(address: Address) -> Cast {
+    table::destination_of(address).unwrap_or(Cast::One(address))
 }
 
 // To whom a telegram goes, by the next words. A group above 255 is taken as 255, which is none either.
@@ -24,7 +20,7 @@ fn cast_in(words: &mut Words) -> Option<Cast> {
             let group = decimal_of(words.next_word())?;
             Some(Cast::Group(u8::try_from(group).unwrap_or(255)))
         }
-        _ => Some(cast_of(address_of(word)?)),
+        _ => Some(cast_of(Address(address_of(word)?))),
     }
 }
 
@@ -61,18 +57,14 @@ fn colours_in(words: &mut Words, number: u8) -> Option<Command> {
     Some(Command::SetPwm(red, green, blue))
 }
 
-// The command of a number whose payload's bytes are the rest of the line. (By a `match`: of `map_err` by a case that may hold a reference the
-// check makes no proof.)
+// The command of a number whose payload's bytes are the rest of the line. (`?` makes a complaint of the refusal.)
 fn command_of(number: u8, rest: &[u8]) -> Result<Command, Complaint<'static>> {
     let mut bytes = [0u8; 16];
     let h = hex_at(rest, 0, &mut bytes);
     if h.at < rest.len() {
         return Err(Complaint::PayloadExpected);
     }
-    match command::compose(number, first(&bytes, h.count)) {
-        Ok(command) => Ok(command),
-        Err(e) => Err(Complaint::Refused(e)),
-    }
+    Ok(command::compose(number, first(&bytes, h.count))?)
 }
 
 // The command that the words behind the address say: its name, and its values as colours or in hex.
@@ -91,10 +83,7 @@ fn build_line<'a>(line: &'a [u8], out: &mut [u8]) -> Result<usize, Complaint<'a>
     let mut words = Words::of(line);
     let cast = cast_in(&mut words).ok_or(Complaint::AddressExpected)?;
     let command = command_in(&mut words)?;
-    match command::build_command(command, cast, out) {
-        Ok(count) => Ok(count),
-        Err(e) => Err(Complaint::Refused(e)),
-    }
+    Ok(command::build_command(command, cast, out)?)
 }
 
 // Prints the bytes of a telegram, without the space before the first.
@@ -108,10 +97,7 @@ fn print_bytes<R: Print>(rt: &R, voice: Voice, s: &[u8]) -> Status {
 
 // The subcommand.
 pub fn build<R: Print>(rt: &R, arguments: &[u8], err: i32) -> Status {
-    let voice = Voice {
-        err,
-        subcommand: Subcommand::Build,
-    };
+    let voice = Voice::new(err, Subcommand::Build);
     let mut room = io::buffer();
     let mut line = Page::over(&mut room);
     line.put_arguments(arguments);

@@ -86,10 +86,7 @@ fn put_block(page: &mut Page, number: u8) {
 
 // The subcommand.
 pub fn info<R: Print>(rt: &R, word: &[u8], err: i32) -> Status {
-    let voice = Voice {
-        err,
-        subcommand: Subcommand::Info,
-    };
+    let voice = Voice::new(err, Subcommand::Info);
     let mut room = io::buffer();
     let mut page = Page::over(&mut room);
     if word.is_empty() {

@@ -1,5 +1,4 @@
-// Two tests joined, and a word and its two bytes. docs/PROMISES.md names these functions; `word`, `high` and `low` say what a word is in the
-// numbers of the definitions, where `to_be_bytes` gives an array that cannot stand among other bytes: no plainer.
+// Two tests joined, and a word and its two bytes. docs/PROMISES.md names these functions.
 #![tactic(auto)]
 
 ghost use Rattle.std.specs.Prelude.{◌≡◌, ◌&&◌, ◌||◌, ◌+◌, ◌*◌, ◌/◌, ◌%◌};

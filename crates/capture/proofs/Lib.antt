@@ -6,7 +6,6 @@ pub mod Runs
 pub mod Telegrams
 pub mod Feeding
 pub mod Taken
-pub mod Scanning
 pub mod Cutting
 pub mod Accepting
 pub mod Repeating

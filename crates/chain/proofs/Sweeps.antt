@@ -13,7 +13,7 @@ use Rattle.rules.specs.declared.Lamp.{Lamp}
 use Rattle.slot.specs.Slot.{slot_size, slot_of}
 use Rattle.chain.specs.Record.{header_size, slot_at, lamps_of, slots_of, lamps_in}
 use Rattle.chain.specs.Places.{lamp_at, with_lamp, sweep}
-use Rattle.chain.proofs.Slots.{bytes_drop}
+use Rattle.chain.proofs.Slots.{bytes_drop, with-self}
 use Rattle.chain.proofs.Places.{rest, rest_all, length-slots_of, slots_of-append, length-lamps_of, slots-lamps, length-lamps_in, lamps-at}
 
 -- Memory with lamps from place 0 on: the header and the bytes behind them as they were.
@@ -140,6 +140,12 @@ install-set mem p n x b h k =
     ∙ sym (install-part mem (lamps_in p mem ++ (x ∷ [])) (p + 1) n b h (omega arith) (simp (length-append, e)))
     ∙ ap (install mem) (append_assoc (lamps_in p mem) (x ∷ []) (rest (p + 1) n mem)
     ∙ sym (rw (lamps-at p n mem k) (set_at (lamps_in p mem) (lamp_at mem p) (rest (p + 1) n mem) x p e)))
+
+-- A sweep that leaves each lamp leaves memory.
+pub sweep-same : (p n : ℕ) (mem : List ℕ) → Bytes mem → slot_at (p + n) ≤ length mem → sweep (λ (q : ℕ) (l : Lamp). l) p n mem ≡ mem
+unfolding sweep
+sweep-same p zero mem b h = refl
+sweep-same p (suc n) mem b h = rw (with-self mem p b (omega arith)) (sweep-same (suc p) n mem b (omega arith))
 
 -- Rules that do the same at each place sweep alike.
 pub sweep-alike : (rule same : ℕ → Lamp → Lamp) → ((p : ℕ) (l : Lamp) → rule p l ≡ same p l) → (p n : ℕ) (mem : List ℕ)

@@ -1,6 +1,6 @@
 -- The lamps of a record, place by place, as the code reads and writes them.
 -- Assumes nothing.
-use Rattle.std.specs.Prelude.{ℕ, zero, suc, ◌+◌, Bool, true, cond, Option, Some, None, List, [], ◌∷◌, ◌++◌, eqb, ltb, get_or, take, drop}
+use Rattle.std.specs.Prelude.{ℕ, zero, suc, ◌+◌, Bool, true, cond, Option, Some, None, List, [], ◌∷◌, ◌++◌, eqb, get_or, take, drop}
 use Rattle.command.specs.Fields.{word_at}
 use Rattle.command.specs.Commands.{Message}
 use Rattle.rules.specs.declared.Defaults.{Defaults}
@@ -41,11 +41,6 @@ sweep rule p (suc n) mem = sweep rule (suc p) n (with_lamp mem p (rule p (lamp_a
 abbrev pub reached : Reach → Lamp → Bool
 reached Everyone l = true
 reached (Members g) l = member g l
-
--- A group is a bit of the group word, below 16.
-abbrev pub reach_fits : Reach → Bool
-reach_fits Everyone = true
-reach_fits (Members g) = ltb g 16
 
 -- A lamp after a command for those that a reach has.
 abbrev pub acted_in : Reach → Defaults → Message → Lamp → Lamp

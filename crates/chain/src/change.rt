@@ -1,11 +1,11 @@
 // What a command does to lamps of the record: to one, to those that it reaches, to everyone.
-ghost use Rattle.std.specs.Prelude.{◌≡◌, true, cond, ℕ, ◌+◌, ◌/◌, ◌%◌, ◌^◌, ◌≤◌, ◌<◌, eqb, length};
+ghost use Rattle.std.specs.Prelude.{◌≡◌, cond, ℕ, ◌+◌, ◌/◌, ◌%◌, ◌^◌, ◌≤◌, ◌<◌, eqb, length};
 ghost use Rattle.command.specs.Fields.{word_at};
 ghost use Rattle.rules.specs.declared.Lamp.{Lamp as LampType};
 ghost use Rattle.rules.specs.Lamp.{changed, acted, obeys};
 ghost use Rattle.slot.specs.Slot.{slot_size};
 ghost use Rattle.chain.specs.Record.{slot_at};
-ghost use Rattle.chain.specs.Places.{words_at, thresholds_at, lamp_at, with_lamp, sweep, reached, reach_fits, acted_in, gone, lit};
+ghost use Rattle.chain.specs.Places.{words_at, thresholds_at, lamp_at, with_lamp, sweep, reached, acted_in, gone, lit};
 ghost use Rattle.chain.specs.Helpers.{command_in};
 
 use crate::Reach;
@@ -99,18 +99,16 @@ pub(crate) fn act(mem: &mut [u8], p: Place, d: Defaults, order: Order)
     }
 }
 
-// Whether bit g of a group word is set.
+// Whether bit g of a group word is set. (A word has no bit from 16 on.)
 fn is_member(g: u8, groups: u16) -> bool
-    requires { g < 16 }
     ensures { result ≡ eqb (groups / 2 ^ g % 2) 1 }
 {
-    (groups >> g) % 2 == 1
+    g < 16 && (groups >> g) % 2 == 1
 }
 
-// Whether a command reaches a lamp.
+// Whether a command reaches a lamp. Each reach has its arm: `matches!` would be no plainer.
 #[tactic(auto, unfolding(rules::specs::Lamp::member))]
 fn is_reached(reach: Reach, l: Lamp) -> bool
-    requires { reach_fits reach ≡ true }
     ensures { result ≡ reached reach l }
 {
     match reach {
@@ -122,7 +120,7 @@ fn is_reached(reach: Reach, l: Lamp) -> bool
 // Does what a command says to the lamp at a place, if it reaches the lamp.
 #[inline(always)]
 fn act_reached(mem: &mut [u8], p: Place, d: Defaults, order: Order, reach: Reach)
-    requires { (slot_at p.0 + slot_size ≤ length mem.old) × (reach_fits reach ≡ true) }
+    requires { slot_at p.0 + slot_size ≤ length mem.old }
     ensures { mem.new ≡ with_lamp mem.old p.0 (acted_in reach d (command_in order.entry.number order.entry.payload.now) (lamp_at mem.old p.0)) }
 {
     if is_reached(reach, load_lamp(mem, p)) {
@@ -133,7 +131,7 @@ fn act_reached(mem: &mut [u8], p: Place, d: Defaults, order: Order, reach: Reach
 // Does what a command says to each lamp that it reaches.
 #[inline(always)]
 pub(crate) fn act_lamps(mem: &mut [u8], count: usize, d: Defaults, order: Order, reach: Reach)
-    requires { (slot_at count ≤ length mem.old) × (reach_fits reach ≡ true) }
+    requires { slot_at count ≤ length mem.old }
     ensures { mem.new ≡ sweep (λ (p : ℕ) (l : LampType). acted_in reach d (command_in order.entry.number order.entry.payload.now) l) 0 count mem.old }
 {
     sweep(mem, count, |m, p| act_reached(m, p, d, order, reach));

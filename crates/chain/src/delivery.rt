@@ -1,13 +1,13 @@
-// The delivery of a telegram to a valid chain. That memory holds one is a `requires` of each function, and no fact of a struct: behind a
-// `&mut` it would have to be asked of each method again, and after a store nothing asks it. An init's number and an address in range
-// stand so too, where one of the cases of an order is taken.
+// The delivery of a telegram to a valid chain. That memory holds one is a `requires` of each function that begins with it and no ghost field
+// of a struct, as record.rt says of a place; after a store nothing asks it. `send` and `initialise` tell the orders apart, and the functions that they
+// call have what was found as a `requires`: that the number is an init's, that the address is in range.
 ghost use Rattle.std.specs.Prelude.{◌≡◌, true, ◌≤◌, length, take};
 ghost use Rattle.telegram.specs.Numbers.{done, reason_of, counted, front, leaves, outcome_of};
 ghost use Rattle.telegram.specs.Telegram.{listed};
 ghost use Rattle.table.specs.declared.Cast.TheVariants.{One};
 ghost use Rattle.rules.specs.Chain.{answer_from, permitting};
 ghost use Rattle.chain.specs.Record.{decode, chain_in};
-ghost use Rattle.chain.specs.Places.{reach_fits, held_after};
+ghost use Rattle.chain.specs.Places.{held_after};
 ghost use Rattle.chain.specs.Helpers.{responded_in, refused_in, reached_in, command_in, sent_in, cast_of, walked_in, delivered_in};
 
 use crate::Reach;
@@ -40,7 +40,7 @@ pub(crate) fn answer(
 
 // Sends a command that is no init to everyone or to a group.
 fn spread(mem: &mut [u8], order: Order, reach: Reach)
-    requires { (chain_in mem.old ≡ done (decode mem.old)) × (reach_fits reach ≡ true) }
+    requires { chain_in mem.old ≡ done (decode mem.old) }
     ensures { mem.new ≡ held_after mem.old (reached_in mem.old (command_in order.entry.number order.entry.payload.now) (cast_of reach)) }
 {
     let count = count_of(mem);
@@ -118,12 +118,12 @@ fn refuse(mem: &mut [u8], e: Refusal) -> Result<usize, Refusal>
     ensures memory { mem.new ≡ held_after mem.old (refused_in mem.old (reason_of e)) }
 {
     if matches!(e, Refusal::Checksum(_, _)) {
-        mark_one(mem, Place(0), true);
+        mark_one(mem, Place(0));
     }
     Err(e)
 }
 
-// Delivers a telegram to a valid chain, with room for an answer. Refusals 1 to 8, 12.
+// Delivers a telegram to a valid chain, with room for an answer. Refusals 1 to 8, 12. (`let .. else`: a form that document 01 names.)
 pub(crate) fn deliver_valid(
     mem: &mut [u8],
     telegram: &[u8],

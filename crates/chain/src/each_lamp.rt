@@ -1,5 +1,8 @@
-// The lamps of the record, one after the other: the lookup, and what is done at each place without a command.
-ghost use Rattle.std.specs.Prelude.{◌≡◌, cond, ℕ, ◌+◌, ◌≤◌, ◌<◌, length};
+// The lamps of the record, one after the other: the lookup, and what is done at each place without a command. Each function for one lamp, here
+// and in change.rt and init.rt, loads and stores by itself. A sweep over a closure from lamp to lamp would save each of them a line, but it
+// stores a lamp also where it stays as it is, which made `light_lamps` slower where that was tried (in Rust). The count is read before a
+// sweep and handed on: read again after it, it would have to be proved the same.
+ghost use Rattle.std.specs.Prelude.{◌≡◌, ℕ, ◌+◌, ◌≤◌, ◌<◌, length};
 ghost use Rattle.rules.specs.declared.Lamp.{Lamp as LampType};
 ghost use Rattle.rules.specs.Lamp.{sensed, with_ce};
 ghost use Rattle.rules.specs.Chain.{any_unaddressed};
@@ -24,7 +27,7 @@ pub(crate) fn find(mem: &[u8], count: usize, a: Address) -> Option<Place>
     None
 }
 
-// Whether any lamp has no address. No lamp ends the loop, so that it has no branch.
+// Whether any lamp has no address. No lamp ends the loop, so that it has no branch. (`sweep` is for what changes the lamps.)
 pub(crate) fn any_unaddressed(mem: &[u8], count: usize) -> bool
     requires { slot_at count ≤ length mem.now }
     ensures { result ≡ any_unaddressed (lamps_in count mem.now) }
@@ -55,24 +58,22 @@ pub(crate) fn fill(mem: &mut [u8], count: usize, l: Lamp)
     sweep(mem, count, |m, p| store_lamp(m, p, l));
 }
 
-// Sets CE at a place, or leaves the lamp.
-pub(crate) fn mark_one(mem: &mut [u8], p: Place, on: bool)
+// Sets CE at a place.
+pub(crate) fn mark_one(mem: &mut [u8], p: Place)
     requires { slot_at p.0 + slot_size ≤ length mem.old }
-    ensures { mem.new ≡ with_lamp mem.old p.0 (cond on (with_ce (lamp_at mem.old p.0)) (lamp_at mem.old p.0)) }
+    ensures { mem.new ≡ with_lamp mem.old p.0 (with_ce (lamp_at mem.old p.0)) }
 {
-    if on {
-        let l = load_lamp(mem, p);
-        let flags = lamp::marked_flags(l.flags);
-        store_lamp(mem, p, Lamp { flags, ..l });
-    }
+    let l = load_lamp(mem, p);
+    let flags = lamp::marked_flags(l.flags);
+    store_lamp(mem, p, Lamp { flags, ..l });
 }
 
-// Sets CE on each lamp, or leaves them.
-pub(crate) fn mark_lamps(mem: &mut [u8], count: usize, on: bool)
+// Sets CE on each lamp.
+pub(crate) fn mark_lamps(mem: &mut [u8], count: usize)
     requires { slot_at count ≤ length mem.old }
-    ensures { mem.new ≡ sweep (λ (p : ℕ) (l : LampType). cond on (with_ce l) l) 0 count mem.old }
+    ensures { mem.new ≡ sweep (λ (p : ℕ) (l : LampType). with_ce l) 0 count mem.old }
 {
-    sweep(mem, count, |m, p| mark_one(m, p, on));
+    sweep(mem, count, mark_one);
 }
 
 // Stores a temperature and flags at a place.

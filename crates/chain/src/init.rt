@@ -1,4 +1,4 @@
-// Init: whether it is permitted, and what it does, from a first address and at 000.
+// Init: whether it is permitted, and what it does, from a first address and at 000. What it asks of memory is a `requires`: see record.rt.
 ghost use Rattle.std.specs.Prelude.{◌≡◌, true, List, ℕ, ◌+◌, ◌-◌, ◌≤◌, length};
 ghost use Rattle.telegram.specs.Numbers.{done, counted, front, leaves, outcome_of};
 ghost use Rattle.table.specs.declared.Cast.TheVariants.{Everyone, One};
@@ -61,7 +61,7 @@ fn answer_last(
     answer(a, order, lamp::report_bytes(l), room)
 }
 
-// Whether a number is an init's.
+// Whether a number is an init's. (A line, by the rules' own definition; the tool asks the table.)
 #[tactic(auto, unfolding(rules::specs::Chain::is_init))]
 pub(crate) fn is_init(n: u8) -> bool
     ensures { result ≡ is_init n }
@@ -132,11 +132,13 @@ fn init_all(mem: &mut [u8], order: Order, room: &mut [u8; ANSWER]) -> Result<usi
     ensures room { room.new ≡ leaves (walked_in mem.old (init_of order.entry.number Everyone)).outcome room.old }
 {
     let count = count_of(mem);
-    mark_lamps(mem, count, order.number == 0x02);
+    if order.number == 0x02 {
+        mark_lamps(mem, count);
+    }
     answer_last(mem, count, Address(0), order, room)
 }
 
-// An init that is permitted. (None for a group is.)
+// An init that is permitted; one for a group never is.
 pub(crate) fn initialise(
     mem: &mut [u8],
     order: Order,

@@ -28,7 +28,8 @@ pub(crate) enum Reach {
     Members(u8),
 }
 
-// The length of the record of a count of lamps, 0 for a count that is refused, as C is given it.
+// The length of the record of a count of lamps, 0 for a count that is refused. (docs/PROMISES.md names the function, and with `length_for`
+// its 0.)
 pub fn record_len(count: usize) -> usize
     ensures { result ≡ length_for count }
 {
@@ -38,7 +39,7 @@ pub fn record_len(count: usize) -> usize
     slot_at(Place(count))
 }
 
-// Makes a chain of fresh lamps. Refusals 11, then 9. Making and a sensor report are done with 0 bytes, so that all three calls answer alike.
+// Makes a chain of fresh lamps. Refusals 11, then 9. Making and a sensor report are done with 0 bytes: all three calls answer alike.
 pub fn make(mem: &mut [u8], count: usize, d: Defaults) -> Result<usize, Refusal>
     ensures answer { outcome_of result ≡ silent (made mem.old count d) }
     ensures memory { mem.new ≡ held mem.old (made mem.old count d) }

@@ -8,7 +8,8 @@ use table::Cast;
 // How long the room for an answer has to be.
 pub(crate) const ANSWER: usize = 12;
 
-// A command of the table: its number, its payload, as long as the table has it for that number, and whom it is for.
+// A command of the table: its number, its payload, as long as the table has it for that number, and whom it is for. A command is its number
+// here, as in the definitions of the rules.
 #[derive(Clone, Copy)]
 pub(crate) struct Order<'a> {
     pub number: u8,

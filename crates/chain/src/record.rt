@@ -1,5 +1,6 @@
-// The record in lent bytes (docs/RECORD.md): its header, the slot of each place, and whether it holds a valid chain. That memory has a place
-// is asked of each function, here and in the files beside it, and no fact of a struct: behind a `&mut` each method would ask it again.
+// The record in lent bytes (docs/RECORD.md): its header, the slot of each place, and whether it holds a valid chain. That memory has a
+// place is a `requires` of each function, here and in the files beside it. A struct of the `&mut` slice with a ghost field would be no
+// plainer: a method assumes the fact, but proves it anew after each store, and needs a clause that the reference stays the same.
 ghost use Rattle.std.specs.Prelude.{◌≡◌, cond, ◌++◌, ◌+◌, ◌^◌, ◌≤◌, ◌<◌, eqb, length, take, drop};
 ghost use Rattle.telegram.specs.Numbers.{refused, done};
 ghost use Rattle.rules.specs.Chain.{lamp_right, lamps_right};
@@ -120,7 +121,7 @@ fn lamp_right(mem: &[u8], p: Place) -> bool
     slot::is_right(slot_bytes(mem, p))
 }
 
-// Whether each lamp is valid. No lamp ends the loop, so that it has no branch.
+// Whether each lamp is valid. No lamp ends the loop, so that it has no branch. (`sweep` is for what changes the lamps.)
 fn lamps_right(mem: &[u8], count: usize) -> bool
     requires { slot_at count ≤ length mem.now }
     ensures { result ≡ lamps_right (lamps_in count mem.now) }

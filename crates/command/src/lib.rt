@@ -23,7 +23,8 @@ pub struct Pwm {
 }
 
 // The commands of the table, with their fields. Those that end in Sr are acknowledged: sent with a status request, document 001's SR.
-// Each number of the table has a case of its own, as the specification names them (`message_of`).
+// Each number of the table has a case of its own, as the specification names them (`message_of`). Their fields stand one by one, as the
+// definitions have them.
 #[derive(Clone, Copy)]
 pub enum Command {
     Reset,
@@ -86,9 +87,7 @@ impl Parts {
 pub fn compose(n: u8, payload: &[u8]) -> Result<Command, Refusal>
     ensures { composed_as result ≡ composing n payload.now }
 {
-    let Some(row) = table::row_of(n) else {
-        return Err(Refusal::UnknownCommand);
-    };
+    let row = table::row_of(n).ok_or(Refusal::UnknownCommand)?;
     if !table::payload_fits(row, payload.len()) {
         return Err(Refusal::PayloadSize);
     }
@@ -100,12 +99,8 @@ pub fn compose(n: u8, payload: &[u8]) -> Result<Command, Refusal>
 pub fn heading_of(t: Telegram) -> Result<Cast, Refusal>
     ensures { (s : List ℕ) → heading_as s t result ≡ naming s t }
 {
-    let Some(row) = table::row_of(t.command) else {
-        return Err(Refusal::UnknownCommand);
-    };
-    let Some(cast) = table::destination_of(t.address) else {
-        return Err(Refusal::CastNotAllowed);
-    };
+    let row = table::row_of(t.command).ok_or(Refusal::UnknownCommand)?;
+    let cast = table::destination_of(t.address).ok_or(Refusal::CastNotAllowed)?;
     if !table::cast_listed(row.casts, cast) {
         return Err(Refusal::CastNotAllowed);
     }
@@ -125,7 +120,7 @@ fn name_command(s: &[u8], t: Telegram) -> Result<Dissected, Refusal>
     Ok(Dissected { cast, command })
 }
 
-// The command dissector. Refusals 1 to 8.
+// The command dissector. Refusals 1 to 8. (`let .. else` where `?` could stand: a form that document 01 names.)
 #[tactic(auto, unfolding(crate::specs::Commands::dissecting))]
 pub fn dissect(s: &[u8]) -> Result<Dissected, Refusal>
     ensures { dissection_as result ≡ dissecting s.now }

@@ -26,6 +26,13 @@ pub enum Complaint<'a> {
     Either,
 }
 
+// What the library refuses is a complaint.
+impl<'a> From<Refusal> for Complaint<'a> {
+    fn from(e: Refusal) -> Complaint<'a> {
+        Complaint::Refused(e)
+    }
+}
+
 // What can be wrong with the options of a subcommand.
 #[derive(Clone, Copy)]
 pub enum WrongOption {
@@ -36,8 +43,6 @@ pub enum WrongOption {
     OneFile,
     LampsMissing,
     FileExpected,
-    BoardOptionExpected,
-    DumpOptionExpected,
 }
 
 // The status of a subcommand that ends with a complaint.
@@ -70,22 +75,25 @@ fn put_quoted(page: &mut Page, word: &[u8], rest: &[u8]) {
     page.put(rest);
 }
 
+// What a subcommand expects where an option or the file stands.
+fn expected_by(subcommand: Subcommand) -> &'static str {
+    match subcommand {
+        Subcommand::Board => "expected --lamps, --setup, --thresholds, --raw or a file",
+        Subcommand::Dump => "expected --json, --quiet or a file",
+        _ => "expected --lamps, --setup, --thresholds, --raw, --quiet, --json or a file",
+    }
+}
+
 // Appends what is wrong with the options of a subcommand, which has a help of its own.
 fn put_wrong_option(page: &mut Page, what: WrongOption, subcommand: Subcommand) {
     let words = match what {
         WrongOption::LampsExpected => "--lamps expects a number",
         WrongOption::SetupExpected => "--setup expects a byte of two hex digits",
         WrongOption::ThresholdsExpected => "--thresholds expects three bytes of two hex digits",
-        WrongOption::OptionExpected => {
-            "expected --lamps, --setup, --thresholds, --raw, --quiet, --json or a file"
-        }
+        WrongOption::OptionExpected => expected_by(subcommand),
         WrongOption::OneFile => "expected one file",
         WrongOption::LampsMissing => "--lamps N is missing",
         WrongOption::FileExpected => "expected a file, or - for standard input",
-        WrongOption::BoardOptionExpected => {
-            "expected --lamps, --setup, --thresholds, --raw or a file"
-        }
-        WrongOption::DumpOptionExpected => "expected --json, --quiet or a file",
     };
     let _ = write!(page, "{words}; see osp help {subcommand}");
 }
@@ -98,7 +106,7 @@ fn put_malformed(page: &mut Page, line: u64) {
     );
 }
 
-// Appends where a capture stopped, and by which refusal.
+// Appends where a capture stopped, and by which refusal. (`lines` has these words too, and does not rest on this crate.)
 fn put_stopped(page: &mut Page, position: u64, e: Refusal) {
     let _ = write!(
         page,

@@ -2,7 +2,9 @@
 use std::fmt;
 use std::fmt::Write;
 
-// The subcommands; of arguments that name none, Help or Arguments complains.
+// The subcommands, by the names that stand in complaints. Help complains of a word that is no subcommand too; Arguments is none itself, and
+// complains of arguments for which there is no room. (`tool` and `ask` match the words where they take them: `script`, `-h` and no word at
+// all stand there too, and `arguments` does not, so that one list would not serve.)
 #[derive(Clone, Copy, PartialEq, Eq)]
 pub enum Subcommand {
     Fields,

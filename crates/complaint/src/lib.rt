@@ -1,6 +1,8 @@
 // What the tool says when something is wrong: one line, "osp: SUBCOMMAND: ..", on a descriptor for errors.
 #![tactic(auto)]
 
+ghost use Rattle.std.specs.Prelude.{◌≡◌};
+
 mod complaints;
 mod kinds;
 
@@ -10,7 +12,8 @@ use std::fmt::Write;
 use std::io::Error;
 use text::Page;
 
-// Where a subcommand says what is wrong: its name stands in each line, which goes to a descriptor.
+// How a subcommand says what is wrong: each line begins with its name and goes to a descriptor. (Who calls a subcommand gives it the
+// descriptor alone, since it knows its own name.)
 #[derive(Clone, Copy)]
 pub struct Voice {
     pub err: i32,
@@ -18,6 +21,13 @@ pub struct Voice {
 }
 
 impl Voice {
+    // The voice of a subcommand, whose lines go to a descriptor.
+    pub fn new(err: i32, subcommand: Subcommand) -> Voice
+        ensures { (result.err ≡ err) × (result.subcommand ≡ subcommand) }
+    {
+        Voice { err, subcommand }
+    }
+
     // Says what is wrong. Answers the status.
     pub fn say(self, what: Complaint) -> Status {
         let mut line = [0u8; 256];

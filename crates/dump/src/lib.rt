@@ -5,7 +5,7 @@ mod walk;
 
 use complaint::{Complaint, Status, Subcommand, Voice};
 use files::Output;
-use options::{Options, options_of};
+use options::{Options, dump_options};
 use std::rt::Files;
 use walk::{Listing, list};
 
@@ -21,11 +21,8 @@ fn list_file<R: Files + Input + Print>(rt: &R, o: &Options, voice: Voice) -> Sta
 
 // The subcommand, on the words behind its name. Answers its status.
 pub fn dump_file<R: Files + Input + Print>(rt: &R, line: &[u8], err: i32) -> Status {
-    let voice = Voice {
-        err,
-        subcommand: Subcommand::Dump,
-    };
-    match options_of(line, Subcommand::Dump) {
+    let voice = Voice::new(err, Subcommand::Dump);
+    match dump_options(line) {
         Ok(o) => list_file(rt, &o, voice),
         Err(wrong) => voice.say(Complaint::InOptions(wrong)),
     }

@@ -1,5 +1,5 @@
 // A raw capture read from its file and listed, chunk by chunk.
-use capture::{Phase, Reading, Reply};
+use capture::{Phase, Reader, Reading, Reply};
 use complaint::{Status, Voice};
 use files::{Chunks, Output, Stop};
 use listing::{Ending, Form, Piece, Tally};
@@ -28,7 +28,7 @@ impl<'r, 'a, R: Print> Listing<'r, 'a, R> {
             form: if o.json { Form::Json } else { Form::Text },
             quiet: o.quiet,
             reading: capture::resting(Phase::Open, 0),
-            tally: Tally::none(),
+            tally: Tally::default(),
             refusal: None,
         }
     }
@@ -46,8 +46,8 @@ impl<'r, 'a, R: Print> Listing<'r, 'a, R> {
         Ok(())
     }
 
-    // Lists the telegram that is refused, of which the reading carried the first bytes: up to twelve in all with those behind them. With
-    // `quiet` the last line alone tells it.
+    // Lists the refused telegram by its first bytes, twelve at most: those that the reading carried, and those behind them. With `quiet`
+    // nothing is listed, since the last line tells the refusal.
     fn list_refused(&mut self, e: Refusal, rest: &[u8]) -> Result<(), Stop> {
         self.output.make_room()?;
         self.refusal = Some(e);
@@ -67,27 +67,27 @@ impl<'r, 'a, R: Print> Listing<'r, 'a, R> {
         Ok(())
     }
 
-    // Lists the next telegram of a chunk, from an index on. Answers where the one behind it begins.
-    fn list_next(&mut self, s: &[u8], at: usize) -> Result<usize, Stop> {
-        let next = capture::next_at(s, self.reading, at);
+    // Lists the next telegram of a chunk. Answers the reader behind it.
+    fn list_next<'s>(&mut self, reader: Reader<'s>) -> Result<Reader<'s>, Stop> {
+        let next = capture::read_next(reader);
         match next.answer {
             Ok(Reply::Telegram(t)) => self.list_telegram(text::first(
                 &next.bytes,
                 t.size.wrapping_add(4),
             ))?,
             Ok(Reply::More | Reply::Ended) => {}
-            Err(e) => self.list_refused(e, text::from(s, at))?,
+            Err(e) => self.list_refused(e, text::from(reader.chunk, reader.at))?,
         }
         self.reading = next.reading;
-        Ok(next.at)
+        Ok(capture::advanced(reader, next))
     }
 
     // Lists each telegram of a chunk. Each takes a byte of it at least.
     fn list_chunk(&mut self, s: &[u8]) -> Result<(), Stop> {
-        let mut at = 0;
+        let mut reader = capture::over_chunk(s, self.reading);
         for _ in 0..s.len() {
-            at = self.list_next(s, at)?;
-            if at == s.len() || self.refusal.is_some() {
+            reader = self.list_next(reader)?;
+            if reader.at == s.len() || self.refusal.is_some() {
                 return Ok(());
             }
         }

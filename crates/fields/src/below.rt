@@ -1,9 +1,9 @@
 // What a telegram is, below its table: a command, an answer or either in words, or why it is refused, with the failed field marked.
 use std::fmt::Write;
-use telegram::{Refusal, refusal_number};
+use telegram::Refusal;
 use text::Page;
 use verdict::Verdict;
-use words::{InWords, put_answer, put_command};
+use words::{InWords, Message, put_answer, put_command};
 
 // A column of the table, for the mark of a failed field.
 #[derive(Clone, Copy)]
@@ -42,34 +42,41 @@ fn put_mark(page: &mut Page, e: Refusal, n: usize) {
     page.put_byte(b'\n');
 }
 
-// Appends one refusal of the reader, which both dissectors hand on, or those of the two.
-fn put_refusals(page: &mut Page, command: Refusal, answer: Refusal) {
-    let _ = if refusal_number(command) < 6 {
-        writeln!(page, "{}", InWords(command))
-    } else {
-        writeln!(
-            page,
-            "as a command {}\nas an answer {}",
-            InWords(command),
-            InWords(answer)
-        )
-    };
+// Appends the line of a command.
+fn put_sent(page: &mut Page, m: Message) {
+    page.put(b"command: ");
+    put_command(page, m);
+    page.put_byte(b'\n');
+}
+
+// Appends the line of an answer.
+fn put_given(page: &mut Page, m: Message) {
+    page.put(b"answer: ");
+    put_answer(page, m);
+    page.put_byte(b'\n');
 }
 
 // Appends the verdict of n bytes. What is either has the line of a command and that of an answer.
 pub(crate) fn put_verdict(page: &mut Page, v: Verdict, n: usize) {
-    if let Verdict::Refused(command, answer) = v {
-        put_mark(page, command, n);
-        put_refusals(page, command, answer);
-    }
-    if let Verdict::Sent(m) | Verdict::Either(m) = v {
-        page.put(b"command: ");
-        put_command(page, m);
-        page.put_byte(b'\n');
-    }
-    if let Verdict::Given(m) | Verdict::Either(m) = v {
-        page.put(b"answer: ");
-        put_answer(page, m);
-        page.put_byte(b'\n');
+    match v {
+        Verdict::Sent(m) => put_sent(page, m),
+        Verdict::Given(m) => put_given(page, m),
+        Verdict::Either(m) => {
+            put_sent(page, m);
+            put_given(page, m);
+        }
+        Verdict::Unread(e) => {
+            put_mark(page, e, n);
+            let _ = writeln!(page, "{}", InWords(e));
+        }
+        Verdict::Neither(command, answer) => {
+            put_mark(page, command, n);
+            let _ = writeln!(
+                page,
+                "as a command {}\nas an answer {}",
+                InWords(command),
+                InWords(answer)
+            );
+        }
     }
 }

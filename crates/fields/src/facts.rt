@@ -23,7 +23,7 @@ pub(crate) fn facts_of(s: &[u8]) -> Facts {
     Facts {
         count: s.len(),
         preamble: b0 / 16,
-        address: bits::word(b0 % 16, b1) / 4,
+        address: words::address_in(b0, b1),
         index: telegram::index_in(b1, b2),
         number: b2 % 128,
         plain: table::plain_number(b2 % 128),

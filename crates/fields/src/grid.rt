@@ -5,7 +5,8 @@ use std::fmt::Write;
 use text::Page;
 
 // The lines of the table: the bytes in hex and their bits, the names of the fields, their values in hex, and in decimal or by name, with
-// borders around and between. (Head, cells and end go by the line, since a line is those three: a call for each would be no plainer.)
+// borders around and between. (Every line is a head, cells and an end, each of which is told by a match on the line. A function for each
+// line in their place would put the three together eight times.)
 #[derive(Clone, Copy)]
 pub(crate) enum Line {
     Top,

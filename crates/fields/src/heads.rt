@@ -2,6 +2,8 @@
 use crate::facts::Facts;
 use crate::grid::Line;
 use std::fmt::Write;
+use table::Cast;
+use telegram::Address;
 use text::Page;
 
 // Appends the head of a line, which depends on how many of the three bytes are there.
@@ -88,15 +90,15 @@ fn put_values(page: &mut Page, f: Facts) {
     );
 }
 
-// Appends what an address stands for.
+// Appends what an address of 10 bits stands for: of these only 3FF is no destination.
 fn put_destination(page: &mut Page, address: u16) {
     let mut room = [0u8; 16];
     let mut word = Page::over(&mut room);
-    let _ = match address {
-        0 => write!(word, "broadcast"),
-        0x3FF => write!(word, "no address"),
-        0x3F0..=0x3FE => write!(word, "group({})", address - 0x3F0),
-        _ => write!(word, "unicast({address})"),
+    let _ = match table::destination_of(Address(address)) {
+        Some(Cast::Everyone) => write!(word, "broadcast"),
+        Some(Cast::One(a)) => write!(word, "unicast({})", a.0),
+        Some(Cast::Group(g)) => write!(word, "group({g})"),
+        None => write!(word, "no address"),
     };
     let start = page.used;
     page.put_times(b' ', 19usize.saturating_sub(word.used) / 2);

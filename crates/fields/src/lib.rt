@@ -11,8 +11,8 @@ use std::fmt::Write;
 use text::{Page, first};
 use verdict::Verdict;
 
-// Prints the table and the verdict of n bytes. More than 16 are judged by the first 16, which are all that is kept of them: see the script
-// of a replay.
+// Prints the table and the verdict of n bytes. Of more than 16 only the first 16 are kept and judged: any telegram of more than 12 bytes is
+// refused for its first three bytes or for its length, so that these give the refusal of the whole.
 fn show<R: Print>(rt: &R, voice: Voice, bytes: &[u8], n: usize) -> Status {
     let mut room = io::buffer();
     let mut page = Page::over(&mut room);
@@ -23,16 +23,13 @@ fn show<R: Print>(rt: &R, voice: Voice, bytes: &[u8], n: usize) -> Status {
         let _ = writeln!(page, "{n} bytes; a telegram has 4 to 12");
     }
     below::put_verdict(&mut page, v, n);
-    let status = Status::of(matches!(v, Verdict::Refused(_, _)));
+    let status = Status::of(matches!(v, Verdict::Unread(_) | Verdict::Neither(_, _)));
     voice.finish(rt, page.written(), status)
 }
 
 // The subcommand, on the words behind its name. Answers its status.
 pub fn show_fields<R: Print>(rt: &R, arguments: &[u8], err: i32) -> Status {
-    let voice = Voice {
-        err,
-        subcommand: Subcommand::Fields,
-    };
+    let voice = Voice::new(err, Subcommand::Fields);
     let mut room = io::buffer();
     let mut line = Page::over(&mut room);
     line.put_arguments(arguments);

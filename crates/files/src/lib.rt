@@ -2,9 +2,11 @@
 // printed meanwhile.
 #![tactic(auto)]
 
+mod carried;
 mod opened;
 mod output;
 
+use carried::Carried;
 pub use opened::{Opened, open_file};
 pub use output::{Output, Stop};
 use std::io::Read;
@@ -22,51 +24,35 @@ pub trait Chunks {
     fn flush(&mut self) -> Result<(), Stop>;
 }
 
-// One turn: reads once behind the bytes that were carried, does what is whole and carries the rest. Answers how
-// many bytes that are, or none where nothing more is to be read.
+// One turn: reads once, does what is whole and carries the rest. Answers whether more is to be read.
 fn turn<C: Chunks, I: Read>(
     to: &mut C,
     input: &mut I,
-    buf: &mut [u8],
-    have: usize,
-) -> Result<Option<usize>, Stop> {
-    let at = text::within(have, buf);
-    let got = input
-        .read(&mut buf[at..])
-        .map_err(|e| Stop::Unread(text::number_of(&e)))?;
-    if got == 0 {
-        to.take_end(text::first(buf, have))?;
-        return Ok(None);
+    carried: &mut Carried,
+) -> Result<bool, Stop> {
+    let have = carried.count;
+    if carried.read_more(input)? == 0 {
+        to.take_end(carried.bytes())?;
+        return Ok(false);
     }
-    let n = have.wrapping_add(got);
-    let Some(rest) = to.take_chunk(text::first(buf, n), have)? else {
-        return Ok(None);
+    let Some(rest) = to.take_chunk(carried.bytes(), have)? else {
+        return Ok(false);
     };
-    Ok(Some(carry(buf, rest, n)))
+    carried.keep_from(rest);
+    Ok(true)
 }
 
-// Reads a file that is open up to its end, or until what is done with it stops. The page is written after each turn. (A
-// `for`, as every loop ends: no file has so many turns.)
+// Reads a file that is open up to its end, or until what is done with it stops. The page is written after each turn. (A loop is proved to
+// end, so this one counts its turns: no file has so many.)
 pub fn read_chunks<C: Chunks, I: Read>(to: &mut C, input: &mut I) -> Result<(), Stop> {
-    let mut buf = io::large_buffer();
-    let mut have = 0;
+    let mut room = io::large_buffer();
+    let mut carried = Carried::over(&mut room);
     for _ in 0..u64::MAX {
-        let went = turn(to, input, &mut buf, have);
+        let more = turn(to, input, &mut carried);
         to.flush()?;
-        let Some(carried) = went? else {
+        if !more? {
             return Ok(());
-        };
-        have = carried;
+        }
     }
     Err(Stop::Unread(text::FAILED))
-}
-
-// Moves the bytes from an index up to another to the front. Answers how many they are.
-fn carry(buf: &mut [u8], from: usize, to: usize) -> usize {
-    let end = text::within(to, buf);
-    if end < from {
-        return 0;
-    }
-    buf.copy_within(from..end, 0);
-    end - from
 }

@@ -3,7 +3,7 @@ use complaint::{Complaint, Status, Voice};
 use text::Page;
 
 // Why it stops: a malformed line of a script, or what could not be read or written, with the system's number of the error.
-// (The number alone, in place of std's Error with room for its words: it is all that is said of it, and each line of a replay answers a Result of this.)
+// (The number and not std's Error, which has room for words: no more is told of it, and each line of a replay answers a Result of this.)
 #[derive(Clone, Copy)]
 pub enum Stop {
     Malformed(u64),

@@ -11,14 +11,14 @@ ghost use Rattle.lamp.specs.Reactions.{padded};
 use rules::{Defaults, Flags, Lamp, State, Words};
 use telegram::Address;
 
-// The bytes of an answer, in the first `size` bytes: memory is fixed, and an answer has up to six.
+// The bytes of an answer, in the first `size` bytes, none where there is no answer: memory is fixed, and an answer has up to six.
 #[derive(Clone, Copy)]
 pub struct Payload {
     pub bytes: [u8; 6],
     pub size: usize,
 }
 
-// A bit as a number.
+// A bit as a number. docs/PROMISES.md names the function.
 pub fn bit_number(b: bool) -> u8
     ensures { (result ≡ bit b) × (result ≤ 1) }
 {
@@ -70,7 +70,7 @@ pub fn marked_flags(f: Flags) -> Flags
     Flags { ce: true, ..f }
 }
 
-// The flags after a sensor report's number of faults.
+// The flags after a sensor report's number of faults. (docs/PROMISES.md names the function.)
 pub fn faulted_flags(faults: u8, f: Flags) -> Flags
     ensures { result ≡ faulted faults f }
 {
@@ -128,7 +128,7 @@ pub fn with_state(l: Lamp, state: State) -> Lamp
     Lamp { state, ..l }
 }
 
-// Whether a lamp in a state obeys what every state obeys, or what UNINITIALIZED does not.
+// Whether a lamp in a state obeys what every state obeys, or what UNINITIALIZED does not. (docs/PROMISES.md names the function.)
 pub fn heeds(always: bool, s: State) -> bool
     ensures { result ≡ (not (uninitialized s) || always) }
 {
@@ -152,6 +152,7 @@ pub fn report_bytes(l: Lamp) -> Payload
     payload_of([l.temperature, status_of(l)])
 }
 
+// The status byte of a lamp. (Private: the tool has its own for its one call of it.)
 fn status_of(l: Lamp) -> u8
     ensures { result ≡ status_of l }
 {

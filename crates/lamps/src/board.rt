@@ -1,21 +1,23 @@
 // The chain as a picture: where a lamp stands, its colour, what is told of it.
 ghost use Rattle.std.specs.Prelude.{◌≤◌};
 
-use crate::{duty_of, mode_of, status_of};
+use crate::status_of;
+use command::pwm_of;
 use rules::{Lamp, State};
 use std::fmt::Write;
 use text::Page;
-use words::{direction_name, put_flags, state_name};
+use words::{direction_name, mode_name, put_flags, state_name};
 
 // The shade of a PWM word: 255 times the duty's share of 32,767 to the power of 1/2.2, by the duty's top eight bits; the smallest duties
 // are not quite dark.
 fn shade_of(word: u16) -> u8 {
-    if duty_of(word) == 0 {
+    let duty = pwm_of(word).duty;
+    if duty == 0 {
         return 0;
     }
     let shades =
         b"\x0F\x15\x1C\x22\x27\x2B\x2E\x32\x35\x38\x3A\x3D\x3F\x42\x44\x46\x48\x4A\x4C\x4E\x50\x52\x54\x55\x57\x59\x5A\x5C\x5D\x5F\x60\x62\x63\x64\x66\x67\x69\x6A\x6B\x6C\x6E\x6F\x70\x71\x73\x74\x75\x76\x77\x78\x79\x7A\x7C\x7D\x7E\x7F\x80\x81\x82\x83\x84\x85\x86\x87\x88\x89\x8A\x8B\x8C\x8D\x8D\x8E\x8F\x90\x91\x92\x93\x94\x95\x95\x96\x97\x98\x99\x9A\x9A\x9B\x9C\x9D\x9E\x9F\x9F\xA0\xA1\xA2\xA3\xA3\xA4\xA5\xA6\xA6\xA7\xA8\xA9\xA9\xAA\xAB\xAC\xAC\xAD\xAE\xAE\xAF\xB0\xB1\xB1\xB2\xB3\xB3\xB4\xB5\xB5\xB6\xB7\xB7\xB8\xB9\xB9\xBA\xBB\xBB\xBC\xBD\xBD\xBE\xBF\xBF\xC0\xC1\xC1\xC2\xC2\xC3\xC4\xC4\xC5\xC6\xC6\xC7\xC7\xC8\xC9\xC9\xCA\xCA\xCB\xCC\xCC\xCD\xCD\xCE\xCF\xCF\xD0\xD0\xD1\xD1\xD2\xD3\xD3\xD4\xD4\xD5\xD5\xD6\xD7\xD7\xD8\xD8\xD9\xD9\xDA\xDA\xDB\xDB\xDC\xDD\xDD\xDE\xDE\xDF\xDF\xE0\xE0\xE1\xE1\xE2\xE2\xE3\xE3\xE4\xE4\xE5\xE5\xE6\xE7\xE7\xE8\xE8\xE9\xE9\xEA\xEA\xEB\xEB\xEC\xEC\xED\xED\xEE\xEE\xEF\xEF\xEF\xF0\xF0\xF1\xF1\xF2\xF2\xF3\xF3\xF4\xF4\xF5\xF5\xF6\xF6\xF7\xF7\xF8\xF8\xF9\xF9\xF9\xFA\xFA\xFB\xFB\xFC\xFC\xFD\xFD\xFE\xFE\xFF";
-    text::byte_at(shades, (duty_of(word) / 128) as usize)
+    text::byte_at(shades, (duty / 128) as usize)
 }
 
 // How many lamps stand in a row.
@@ -87,15 +89,18 @@ fn put_title(page: &mut Page, place: u16, l: Lamp) {
         direction_name(status)
     );
     put_flags(page, status, b"no flags");
+    let red = pwm_of(l.pwm.red);
+    let green = pwm_of(l.pwm.green);
+    let blue = pwm_of(l.pwm.blue);
     let _ = write!(
         page,
         "; red {} {}, green {} {}, blue {} {}</title>",
-        mode_of(l.pwm.red),
-        duty_of(l.pwm.red),
-        mode_of(l.pwm.green),
-        duty_of(l.pwm.green),
-        mode_of(l.pwm.blue),
-        duty_of(l.pwm.blue)
+        mode_name(red.day),
+        red.duty,
+        mode_name(green.day),
+        green.duty,
+        mode_name(blue.day),
+        blue.duty
     );
 }
 

@@ -7,7 +7,8 @@ mod records;
 use rules::Lamp;
 use text::Page;
 
-// How a chain is shown.
+// How a chain is shown. (A value that a subcommand or an option gives, and matched on where the forms differ: a trait with an impl for each
+// form would be no plainer.)
 #[derive(Clone, Copy)]
 pub enum Look {
     Table,
@@ -15,19 +16,9 @@ pub enum Look {
     Picture,
 }
 
-// The status byte of a lamp.
+// The status byte of a lamp. (`lamp` has it as a private function: a public one would need a contract there for this one line.)
 pub(crate) fn status_of(l: Lamp) -> u8 {
     lamp::status_byte(l.state, l.direction, l.flags)
-}
-
-// The name of the mode of a PWM word.
-pub(crate) fn mode_of(word: u16) -> &'static str {
-    words::mode_name(32768 <= word)
-}
-
-// The duty of a PWM word.
-pub(crate) fn duty_of(word: u16) -> u16 {
-    word % 32768
 }
 
 // Appends what is shown of the lamp at a place of a chain of so many lamps.

@@ -1,9 +1,10 @@
 // A lamp as a row of the table and as an object.
-use crate::{duty_of, mode_of, status_of};
+use crate::status_of;
+use command::pwm_of;
 use rules::Lamp;
 use std::fmt::Write;
 use text::Page;
-use words::{direction_name, put_flag_strings, put_flags, put_groups, state_name};
+use words::{direction_name, mode_name, put_flag_strings, put_flags, put_groups, state_name};
 
 // Appends a row of the table.
 pub(crate) fn put_row(page: &mut Page, place: u16, l: Lamp) {
@@ -28,7 +29,8 @@ pub(crate) fn put_row(page: &mut Page, place: u16, l: Lamp) {
 
 // Appends a PWM word in its columns.
 fn put_columns(page: &mut Page, word: u16) {
-    let _ = write!(page, "{:<6}{:>5} ", mode_of(word), duty_of(word));
+    let pwm = pwm_of(word);
+    let _ = write!(page, "{:<6}{:>5} ", mode_name(pwm.day), pwm.duty);
 }
 
 // Appends the flags in their column, and the groups, which end the row.
@@ -68,10 +70,11 @@ pub(crate) fn put_object(page: &mut Page, place: u16, l: Lamp) {
 
 // Appends a PWM word as an object.
 fn put_member(page: &mut Page, word: u16) {
+    let pwm = pwm_of(word);
     let _ = write!(
         page,
         "{{\"mode\":\"{}\",\"duty\":{}}}",
-        mode_of(word),
-        duty_of(word)
+        mode_name(pwm.day),
+        pwm.duty
     );
 }

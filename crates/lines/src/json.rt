@@ -1,4 +1,5 @@
-// What is printed of a line for machines: an object a line.
+// What is printed of a line for machines: an object a line. (What stands in each telegram's object is put by the page's methods, which are
+// faster than `write!`.)
 use crate::{Given, Line, Telegram, is_either};
 use std::fmt::Write;
 use telegram::Refusal;

@@ -12,13 +12,17 @@ pub use reading::line_at;
 use telegram::Refusal;
 use text::Page;
 
-// What is printed of each line.
+// What is printed of each line. (No trait with an impl for each style: the style is a value that an option gives, so that a match on it
+// would choose the impl all the same.)
 #[derive(Clone, Copy, PartialEq, Eq)]
 pub enum Style {
     Text,
     Json,
     Silent,
 }
+
+// A line of more bytes is malformed.
+pub const LONGEST_LINE: usize = 65000;
 
 // What a text holds: lines that end with a line feed, the last line, which need not, or whole telegrams of a capture.
 #[derive(Clone, Copy)]

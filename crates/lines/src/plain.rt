@@ -56,14 +56,14 @@ fn put_refused(page: &mut Page, before: u64, line: &Line, e: Refusal) {
     };
 }
 
-// Appends what a report did. Its faults are the lowest three flags of a status byte.
+// Appends what a report that was taken did. Its faults, below 8, are the lowest three flags of a status byte.
 fn put_sensed(page: &mut Page, r: &Report) {
     let _ = write!(
         page,
         "place {}: temperature {:02X}, sets ",
         r.place, r.temperature
     );
-    words::put_flags(page, (r.faults % 256) as u8, b"no flag");
+    words::put_flags(page, u8::try_from(r.faults).unwrap_or(0), b"no flag");
     page.put_byte(b'\n');
 }
 
@@ -97,7 +97,7 @@ pub(crate) fn put_line(page: &mut Page, before: u64, line: &Line, given: &Given)
     }
 }
 
-// Appends where a capture stopped.
+// Appends where a capture stopped. (In the words of `complaint`, on which this crate does not rest: it would for this sentence alone.)
 pub(crate) fn put_stopped(page: &mut Page, position: u64, e: Refusal) {
     let _ = writeln!(
         page,

@@ -1,10 +1,7 @@
 // The line at an index of a text.
-use crate::{Holds, Line, Report, Telegram};
+use crate::{Holds, LONGEST_LINE, Line, Report, Telegram};
 use frame::Cut;
 use text::reading::{Words, byte_of, decimal_of, hex_at};
-
-// A line of more bytes is malformed.
-const MOST: usize = 65000;
 
 // A line of so many bytes in hex; none is a blank line.
 fn hex_line(room: [u8; 16], count: usize) -> Line {
@@ -85,7 +82,7 @@ pub fn line_at(s: &[u8], at: usize, holds: Holds) -> Option<(Line, usize)> {
             Holds::LastLine => any_at(s, at, true)?,
         }
     };
-    let taken = if MOST < end.wrapping_sub(at) {
+    let taken = if LONGEST_LINE < end.wrapping_sub(at) {
         Line::Malformed
     } else {
         line

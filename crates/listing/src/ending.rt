@@ -8,7 +8,7 @@ use verdict::Verdict;
 use words::{InWords, put_number};
 
 // How many telegrams there were, and how many of them were commands, answers, either and neither.
-#[derive(Clone, Copy)]
+#[derive(Clone, Copy, Default)]
 pub struct Tally {
     pub telegrams: u64,
     pub commands: u64,
@@ -18,17 +18,6 @@ pub struct Tally {
 }
 
 impl Tally {
-    // No telegrams.
-    pub fn none() -> Tally {
-        Tally {
-            telegrams: 0,
-            commands: 0,
-            answers: 0,
-            either: 0,
-            neither: 0,
-        }
-    }
-
     // Counts a telegram more.
     pub fn count(&mut self, v: Verdict) {
         self.telegrams = self.telegrams.wrapping_add(1);
@@ -36,7 +25,9 @@ impl Tally {
             Verdict::Sent(_) => self.commands = self.commands.wrapping_add(1),
             Verdict::Given(_) => self.answers = self.answers.wrapping_add(1),
             Verdict::Either(_) => self.either = self.either.wrapping_add(1),
-            Verdict::Refused(_, _) => self.neither = self.neither.wrapping_add(1),
+            Verdict::Unread(_) | Verdict::Neither(_, _) => {
+                self.neither = self.neither.wrapping_add(1);
+            }
         }
     }
 }

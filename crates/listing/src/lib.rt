@@ -13,7 +13,8 @@ use text::Page;
 use verdict::Verdict;
 use words::{Message, command_name, objects};
 
-// How a capture is listed: as text or as JSON, an object a line.
+// How a capture is listed: as text or as JSON, an object a line. (A value that an option gives, and matched on where they differ: a trait
+// with an impl for each form would be no plainer.)
 #[derive(Clone, Copy)]
 pub enum Form {
     Text,
@@ -45,10 +46,10 @@ pub(crate) fn put_object_start(page: &mut Page, p: Piece) {
     page.put_byte(b'"');
 }
 
-// Appends what a telegram says, or the numbers of its two refusals.
+// Appends what a telegram says, or the numbers of its two refusals. (What is listed was read, so that it is never `Unread`.)
 pub(crate) fn put_meaning(page: &mut Page, v: Verdict) {
     match v {
-        Verdict::Refused(command, answer) => {
+        Verdict::Neither(command, answer) => {
             let _ = write!(
                 page,
                 "neither: as a command refused {}, as an answer refused {}",
@@ -78,7 +79,7 @@ fn put_neither(page: &mut Page, command: Refusal, answer: Refusal) {
     );
 }
 
-// What a telegram says, or the numbers of its two refusals, as the end of an object.
+// What a telegram says, or the numbers of its two refusals, as the end of an object. (As above, `Unread` does not come.)
 fn put_object_end(page: &mut Page, v: Verdict) {
     match v {
         Verdict::Sent(m) => {
@@ -93,7 +94,8 @@ fn put_object_end(page: &mut Page, v: Verdict) {
             objects::put_command(page, m);
             put_given(page, m);
         }
-        Verdict::Refused(command, answer) => put_neither(page, command, answer),
+        Verdict::Unread(e) => put_neither(page, e, e),
+        Verdict::Neither(command, answer) => put_neither(page, command, answer),
     }
 }
 

@@ -59,7 +59,7 @@ fn put_claims(page: &mut Page, e: Refusal, s: &[u8]) {
 // Appends the command and the address that three bytes claim.
 fn put_command(page: &mut Page, s: &[u8]) {
     let command = byte_at(s, 2) % 128;
-    let address = bits::word(byte_at(s, 0) % 16, byte_at(s, 1)) / 4;
+    let address = words::address_in(byte_at(s, 0), byte_at(s, 1));
     let name = command_name(command);
     let _ = write!(
         page,

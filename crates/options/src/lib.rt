@@ -2,130 +2,121 @@
 #![tactic(auto)]
 
 use complaint::{Subcommand, WrongOption};
+use rules::{Defaults, Thresholds};
 use text::reading::{byte_of, decimal_of};
 
-// What the options say. Dump takes no lamps: it has 0.
+// What is said to dump: the file, and what is printed of it.
 #[derive(Clone, Copy)]
 pub struct Options<'a> {
     pub file: &'a [u8],
-    pub lamps: u32,
-    pub setup: u8,
-    pub cycle: u8,
-    pub low: u8,
-    pub high: u8,
-    pub raw: bool,
     pub quiet: bool,
     pub json: bool,
 }
 
-// An option.
+// What is said to replay and board: the same, whether the file is a raw capture, and the chain on which it is done.
 #[derive(Clone, Copy)]
-enum Switch {
-    Lamps,
-    Setup,
-    Thresholds,
-    Raw,
-    Quiet,
-    Json,
+pub struct ChainOptions<'a> {
+    pub options: Options<'a>,
+    pub raw: bool,
+    pub lamps: u32,
+    pub defaults: Defaults,
 }
 
-// What the next word is: an option or the file, or the value of an option before it. (A value is a word like any other, and the complaint
-// about a missing one goes by what stood before it: to take it behind its option would be no plainer.)
-#[derive(Clone, Copy, PartialEq, Eq)]
-enum Next {
-    Any,
-    Lamps,
-    Setup,
-    Cycle,
-    Low,
-    High,
-}
-
-// What the words up to one said.
+// The words that are left, and what those before them said.
 #[derive(Clone, Copy)]
 struct Reading<'a> {
     subcommand: Subcommand,
-    next: Next,
-    lamps: Option<u32>,
+    rest: &'a [u8],
     file: Option<&'a [u8]>,
-    setup: u8,
-    cycle: u8,
-    low: u8,
-    high: u8,
+    lamps: Option<u32>,
+    defaults: Defaults,
     raw: bool,
     quiet: bool,
     json: bool,
 }
 
-// The option that a word is, of those that a subcommand takes. Board takes the first four, dump the last two.
-fn switch_of(subcommand: Subcommand, word: &[u8]) -> Option<Switch> {
-    let board = subcommand == Subcommand::Board;
-    let dump = subcommand == Subcommand::Dump;
-    match word {
-        b"--lamps" if !dump => Some(Switch::Lamps),
-        b"--setup" if !dump => Some(Switch::Setup),
-        b"--thresholds" if !dump => Some(Switch::Thresholds),
-        b"--raw" if !dump => Some(Switch::Raw),
-        b"--quiet" if !board => Some(Switch::Quiet),
-        b"--json" if !board => Some(Switch::Json),
-        _ => None,
-    }
-}
-
-// The complaint about an option that a subcommand does not take.
-fn option_expected(subcommand: Subcommand) -> WrongOption {
-    match subcommand {
-        Subcommand::Board => WrongOption::BoardOptionExpected,
-        Subcommand::Dump => WrongOption::DumpOptionExpected,
-        _ => WrongOption::OptionExpected,
-    }
-}
-
-// The complaint about a value that is missing or wrong.
-fn value_expected(next: Next) -> WrongOption {
-    match next {
-        Next::Lamps => WrongOption::LampsExpected,
-        Next::Setup => WrongOption::SetupExpected,
-        _ => WrongOption::ThresholdsExpected,
-    }
-}
+// The setup and the thresholds of the paper.
+const PAPER: Defaults = Defaults {
+    setup: 0x13,
+    thresholds: Thresholds {
+        cycle: 0x03,
+        low: 0xE6,
+        high: 0xF0,
+    },
+};
 
 impl<'a> Reading<'a> {
-    // Before the first word: setup and thresholds of the paper.
-    fn of(subcommand: Subcommand) -> Reading<'a> {
+    // Before the first word.
+    fn of(rest: &'a [u8], subcommand: Subcommand) -> Reading<'a> {
         Reading {
             subcommand,
-            next: Next::Any,
-            lamps: None,
+            rest,
             file: None,
-            setup: 0x13,
-            cycle: 0x03,
-            low: 0xE6,
-            high: 0xF0,
+            lamps: None,
+            defaults: PAPER,
             raw: false,
             quiet: false,
             json: false,
         }
     }
 
-    // Takes an option.
-    fn take_switch(&mut self, switch: Switch) {
-        match switch {
-            Switch::Lamps => self.next = Next::Lamps,
-            Switch::Setup => self.next = Next::Setup,
-            Switch::Thresholds => self.next = Next::Cycle,
-            Switch::Raw => self.raw = true,
-            Switch::Quiet => self.quiet = true,
-            Switch::Json => self.json = true,
+    // Takes the next word, if one is left.
+    fn next_word(&mut self) -> Option<&'a [u8]> {
+        if self.rest.is_empty() {
+            return None;
         }
+        let end = text::find(self.rest, 0, self.rest.len(), 0);
+        let word = text::first(self.rest, end);
+        self.rest = text::from(self.rest, end.wrapping_add(1));
+        Some(word)
     }
 
-    // Takes an option or the file. An option has two hyphens in front.
-    fn take_any(&mut self, word: &'a [u8]) -> Result<(), WrongOption> {
+    // Takes the number that is an option's value.
+    fn next_number(&mut self) -> Option<u32> {
+        decimal_of(self.next_word()?)
+    }
+
+    // Takes a byte of an option's value.
+    fn next_byte(&mut self) -> Option<u8> {
+        byte_of(self.next_word()?)
+    }
+
+    // Takes the three bytes that are an option's value.
+    fn next_thresholds(&mut self) -> Option<Thresholds> {
+        Some(Thresholds {
+            cycle: self.next_byte()?,
+            low: self.next_byte()?,
+            high: self.next_byte()?,
+        })
+    }
+
+    // Takes an option, and its value behind it. Board takes the first four, dump the last two.
+    fn take_option(&mut self, word: &[u8]) -> Result<(), WrongOption> {
+        let board = self.subcommand == Subcommand::Board;
+        let dump = self.subcommand == Subcommand::Dump;
+        match word {
+            b"--lamps" if !dump => {
+                self.lamps = Some(self.next_number().ok_or(WrongOption::LampsExpected)?);
+            }
+            b"--setup" if !dump => {
+                self.defaults.setup = self.next_byte().ok_or(WrongOption::SetupExpected)?;
+            }
+            b"--thresholds" if !dump => {
+                let thresholds = self.next_thresholds();
+                self.defaults.thresholds = thresholds.ok_or(WrongOption::ThresholdsExpected)?;
+            }
+            b"--raw" if !dump => self.raw = true,
+            b"--quiet" if !board => self.quiet = true,
+            b"--json" if !board => self.json = true,
+            _ => return Err(WrongOption::OptionExpected),
+        }
+        Ok(())
+    }
+
+    // Takes an option, which has two hyphens in front, or the file.
+    fn take(&mut self, word: &'a [u8]) -> Result<(), WrongOption> {
         if word.starts_with(b"--") {
-            let expected = option_expected(self.subcommand);
-            self.take_switch(switch_of(self.subcommand, word).ok_or(expected)?);
-            return Ok(());
+            return self.take_option(word);
         }
         if self.file.is_some() {
             return Err(WrongOption::OneFile);
@@ -134,83 +125,43 @@ impl<'a> Reading<'a> {
         Ok(())
     }
 
-    // Takes a byte: the setup, or the next of the three thresholds.
-    fn take_byte(&mut self, b: u8) {
-        match self.next {
-            Next::Setup => {
-                self.setup = b;
-                self.next = Next::Any;
-            }
-            Next::Cycle => {
-                self.cycle = b;
-                self.next = Next::Low;
-            }
-            Next::Low => {
-                self.low = b;
-                self.next = Next::High;
-            }
-            _ => {
-                self.high = b;
-                self.next = Next::Any;
-            }
+    // Takes all words: at most as many as there are bytes, since each has a byte behind it.
+    fn take_all(&mut self) -> Result<(), WrongOption> {
+        for _ in 0..self.rest.len() {
+            let Some(word) = self.next_word() else {
+                return Ok(());
+            };
+            self.take(word)?;
         }
-    }
-
-    // Takes the value of an option.
-    fn take_value(&mut self, word: &[u8]) -> Result<(), WrongOption> {
-        let expected = value_expected(self.next);
-        if self.next == Next::Lamps {
-            self.lamps = Some(decimal_of(word).ok_or(expected)?);
-            self.next = Next::Any;
-            return Ok(());
-        }
-        self.take_byte(byte_of(word).ok_or(expected)?);
         Ok(())
     }
 
-    // Takes a word.
-    fn take(&mut self, word: &'a [u8]) -> Result<(), WrongOption> {
-        if self.next == Next::Any {
-            self.take_any(word)
-        } else {
-            self.take_value(word)
-        }
-    }
-
-    // How many lamps there are. Dump has none.
-    fn lamps_said(&self) -> Result<u32, WrongOption> {
-        if self.subcommand == Subcommand::Dump {
-            return Ok(0);
-        }
-        self.lamps.ok_or(WrongOption::LampsMissing)
-    }
-
-    // What was said once all words were taken, or what is still missing.
-    fn end(self) -> Result<Options<'a>, WrongOption> {
-        if self.next != Next::Any {
-            return Err(value_expected(self.next));
-        }
-        let lamps = self.lamps_said()?;
-        let file = self.file.ok_or(WrongOption::FileExpected)?;
+    // What is said to dump, and to the others too; a file is always named.
+    fn options(&self) -> Result<Options<'a>, WrongOption> {
         Ok(Options {
-            file,
-            lamps,
-            setup: self.setup,
-            cycle: self.cycle,
-            low: self.low,
-            high: self.high,
-            raw: self.raw,
+            file: self.file.ok_or(WrongOption::FileExpected)?,
             quiet: self.quiet,
             json: self.json,
         })
     }
 }
 
-// The options of a subcommand in words that are separated by a byte 0, or what is wrong with them.
-pub fn options_of(line: &[u8], subcommand: Subcommand) -> Result<Options<'_>, WrongOption> {
-    let mut reading = Reading::of(subcommand);
-    for piece in line.split_inclusive(|b| *b == 0) {
-        reading.take(text::first(piece, text::find(piece, 0, piece.len(), 0)))?;
-    }
-    reading.end()
+// What words that are separated by a byte 0 say to dump, or what is wrong with them.
+pub fn dump_options(line: &[u8]) -> Result<Options<'_>, WrongOption> {
+    let mut reading = Reading::of(line, Subcommand::Dump);
+    reading.take_all()?;
+    reading.options()
+}
+
+// What they say to replay or board.
+pub fn chain_options(line: &[u8], subcommand: Subcommand) -> Result<ChainOptions<'_>, WrongOption> {
+    let mut reading = Reading::of(line, subcommand);
+    reading.take_all()?;
+    let lamps = reading.lamps.ok_or(WrongOption::LampsMissing)?;
+    Ok(ChainOptions {
+        options: reading.options()?,
+        raw: reading.raw,
+        lamps,
+        defaults: reading.defaults,
+    })
 }

@@ -12,7 +12,7 @@ use command::Dissected;
 use rules::{Lamp, State};
 use telegram::Telegram;
 
-// Writes a result, a head and a payload behind it, where there is room for both, else 9.
+// Writes a result, a head and a payload behind it, where there is room for both, else 9. (`reader` writes a pair too, which always fits.)
 fn give(head: &[u8], payload: &[u8], out: &mut [u8]) -> u32
     requires { length head.now + length payload.now < 65536 }
     ensures value { result ≡ returned (fitted (length out.old) (head.now ++ payload.now)) }
@@ -28,7 +28,7 @@ fn give(head: &[u8], payload: &[u8], out: &mut [u8]) -> u32
     n as u32 * 256
 }
 
-// A payload size, which is at most 8, as a byte.
+// A payload size, which is at most 8, as a byte. No `try_from`: none of its callers has a size that it could refuse.
 fn size_byte(n: usize) -> u8
     requires { n ≤ 8 }
     ensures { result ≡ n }

@@ -1,5 +1,6 @@
 // The C interface: one exported function for each function of the crate `osp` that C calls, under its name and with its clauses.
-// include/osp.h has their declarations.
+// include/osp.h has their declarations. (Each has to stand here once more: an export cannot be generic, and a crate that other crates use
+// is no static library.)
 #![tactic(auto)]
 
 ghost use Rattle.std.specs.Prelude.{◌≡◌, length};

@@ -25,19 +25,16 @@ fn refusal_of(reading: Reading) -> Option<Refusal> {
 }
 
 // The reading behind a chunk, or where it stopped. Each telegram takes a byte of the chunk at least. (`capture::scan_chunk` gives the same,
-// but goes byte by byte.)
+// but goes byte by byte. `dump` has a loop of its own, which lists each telegram: one for both, over a trait, would be longer than two.)
 fn read_chunk(s: &[u8], before: Reading) -> Reading {
-    let mut reading = before;
-    let mut at = 0;
+    let mut reader = capture::over_chunk(s, before);
     for _ in 0..s.len() {
-        let next = capture::next_at(s, reading, at);
-        reading = next.reading;
-        at = next.at;
-        if at == s.len() || !matches!(reading.phase, Phase::Open) {
-            return reading;
+        reader = capture::advanced(reader, capture::read_next(reader));
+        if reader.at == s.len() || !matches!(reader.carried.phase, Phase::Open) {
+            return reader.carried;
         }
     }
-    reading
+    reader.carried
 }
 
 impl<'b, 'r, 'a, R: Print> Walk<'b, 'r, 'a, R> {

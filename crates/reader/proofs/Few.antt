@@ -1,42 +1,19 @@
--- What a call on a state leaves fits its memory: at most 11 bytes are carried, the position is below 2^64, and a telegram that it gives has
--- at most 12 bytes.
+-- What a call on a state leaves fits its memory: the position is below 2^64, and a telegram that it gives has at most 12 bytes.
 -- Assumes nothing.
 use Rattle.std.proofs.Common.{◌≡◌, ℕ, ◌+◌, ◌≤◌, Bool, true, false, List, ◌++◌, length, take, drop, sym, refl, ap, ◌∙◌, subst, arith, take_at}
-use Rattle.telegram.specs.Numbers.{Reason, bare, Outcome, refused_for, refused, done}
+use Rattle.telegram.specs.Numbers.{Reason, bare, Outcome, refused_for, done}
 use Rattle.telegram.specs.Telegram.{reading, Bytes}
 use Rattle.telegram.specs.declared.Telegram.{Telegram}
 use Rattle.telegram.proofs.Outcomes.{never}
 use Rattle.telegram.proofs.Reading.{accepted-count, accepted-size}
 use Rattle.frame.specs.Frame.{Cutting, incomplete, broken, whole, cutting}
 use Rattle.frame.proofs.Fronts.{bytes-append, bytes_take, bytes_drop}
-use Rattle.capture.specs.State.{Standing, going, ended, stopped_for, stopped, checksums_in, State, padded, carrying, resting, carried_in, is_left}
+use Rattle.capture.specs.State.{Standing, going, ended, stopped_for, stopped, State, padded, carrying, resting, carried_in, is_left}
 use Rattle.capture.specs.Run.{judged, grown, ended_by}
 use Rattle.capture.specs.Calls.{Reply, telegram, more, over, Given, without, next_judged, next_cut, next_by, nexting, Closed, closing}
 use Rattle.capture.specs.Uncut.{Taken, Position}
-use Rattle.capture.proofs.States.{left, next-not, next-by, end-not, end_by}
+use Rattle.capture.proofs.States.{next-not, next-by, end_by}
 use Rattle.capture.proofs.Telegrams.{next-state}
-use Rattle.capture.proofs.Taken.{taken_next, taken-end}
-
--- A state with its twelve bytes: unless it is refused with 11, at most 11 bytes are carried after a call.
-module _ (s : State) (n : length s.bytes ≡ 12) (y : Bytes s.bytes) (z : Bytes (checksums_in s.standing)) where
-  abbrev taken : is_left s ≡ true → Taken s
-  taken e = record { long = n; each = y; sums = z; leaves = e }
-
-  next-few-by : (b : Bool) → is_left s ≡ b → (c : List ℕ) (at : ℕ) → Bytes c → ((nexting c s at).answer ≡ refused 11 → ⊥) → (nexting c s at).state.count ≤ 11
-  next-few-by true e c at z f = (left _ (taken_next c s at (taken e) z).leaves).few
-  next-few-by false e c at z f = absurd (f (ap (λ (g : Given). g.answer) (sym (next-not c s at e))))
-
-  pub next-few : (c : List ℕ) (at : ℕ) → Bytes c → ((nexting c s at).answer ≡ refused 11 → ⊥) → (nexting c s at).state.count ≤ 11
-  next-few = next-few-by (is_left s) refl
-
-  end-few-by : (b : Bool) → is_left s ≡ b → ((closing s).answer ≡ refused 11 → ⊥) → (closing s).state.count ≤ 11
-  end-few-by true e f =
-      subst (λ (z : State). z.count ≤ 11) (ap (λ (c : Closed). c.state) (end_by s e s.standing refl))
-      (left _ (taken-end s (taken e)).leaves).few
-  end-few-by false e f = absurd (f (ap (λ (g : Closed). g.answer) (sym (end-not s e))))
-
-  pub end-few : ((closing s).answer ≡ refused 11 → ⊥) → (closing s).state.count ≤ 11
-  end-few = end-few-by (is_left s) refl
 
 -- A telegram that is given was accepted: its payload has at most 8 bytes, and all its bytes are given. A refusal leaves the index.
 pub record Fits (at : ℕ) (g : Given) : Type 0 where

@@ -8,7 +8,7 @@ use Rattle.frame.proofs.Fronts.{bytes-zeros, bytes-none, bytes-cons, bytes-appen
 use Rattle.capture.specs.State.{Standing, going, ended, stopped_for, checksums_in, State}
 use Rattle.capture.specs.Uncut.{Taken, Position}
 use Rattle.capture.proofs.States.{left, none-stopped, stops_as, stops-low}
-use Rattle.reader.specs.Layout.{stands_in, position_in, carried_bytes, state_in, standing_byte, value_byte, position_bytes, state_head, state_bytes, holding}
+use Rattle.reader.specs.Layout.{stands_in, count_in, position_in, carried_bytes, state_in, standing_byte, value_byte, position_bytes, state_head, state_bytes, holding}
 use Rattle.reader.specs.Kept.{StateComesBack, HeldStays, TakenIn}
 use Rattle.reader.proofs.States.{standing_state, state-by, state-long}
 use Rattle.reader.proofs.Positions.{position-each, number-position, number-back}
@@ -26,6 +26,12 @@ all_listed mem k (suc n) h =
     ap (λ (l : List ℕ). get_or mem k 0 ∷ l)
     (ap (λ (i : ℕ). listed mem (suc k) n ++ drop i mem) e ∙ all_listed mem (suc k) n (omega arith))
     ∙ sym (drop-cons mem k 0 (omega arith))
+
+-- Byte 1 is a byte, so the count fits in one.
+count-low : (k : Standing) (v : ℕ) → v < 256 → count_in k v ≤ 255
+count-low going v h = omega (arith, h)
+count-low ended v h = omega (arith, h)
+count-low (stopped_for d) v h = omega arith
 
 -- What a state has that memory holds.
 module _ (s : State) (mem : List ℕ) (e : state_in mem ≡ done s) where
@@ -75,12 +81,15 @@ module _ (s : State) (mem : List ℕ) (e : state_in mem ≡ done s) where
       let b = bytes-append carried (0 ∷ []) (bytes_take 11 (drop 10 mem) (bytes_drop 10 mem y)) (bytes-cons 0 [] (omega arith) bytes-none) in
       bytes-append z (drop (length z) (carried ++ 0 ∷ [])) (bytes-zeros (length (checksums_in held-as.0))) (bytes_drop (length z) (carried ++ 0 ∷ []) b)
 
-  pub held-sums : Bytes mem → Bytes (checksums_in s.standing)
+  held-sums : Bytes mem → Bytes (checksums_in s.standing)
   held-sums y =
       subst (λ (z : State). Bytes (checksums_in z.standing)) held-as.2
       (⊎_elim (λ e. subst Bytes (sym e) bytes-none)
       (λ e. subst Bytes (sym e) (bytes-cons (get_or mem 10 0) (get_or mem 11 0 ∷ []) (y 10) (bytes-cons (get_or mem 11 0) [] (y 11) bytes-none)))
       stood.sums)
+
+  pub held-few : Bytes mem → s.count ≤ 255
+  held-few y = subst (λ (z : State). z.count ≤ 255) held-as.2 (count-low held-as.0 (get_or mem 1 0) (y 1))
 
   shown-long : length (shown (standing_state mem held-as.0)) ≡ 12
   shown-long = ap length (shown-as held-as.0 stood.sums) ∙ simp length-append (omega (arith, carried-long))

@@ -27,7 +27,7 @@ one_told (b ∷ w) l = refl
 
 module _ (s : State) (mem : List ℕ) (k : TakenIn s mem) where
   -- No call gives 11.
-  no-eleven : NeverEleven s
+  pub no-eleven : NeverEleven s
   unfolding ElevenExact TakenIsLeft
   no-eleven =
       let t = held-taken s mem k in

@@ -5,6 +5,7 @@ pub mod Positions
 pub mod Back
 pub mod Holding
 pub mod InMemory
+pub mod Keeping
 pub mod Cutting
 pub mod AtRest
 pub mod Carrying

@@ -1,7 +1,7 @@
 // The state of a reading read out of lent memory, twenty-one bytes. docs/RECORD.md has the table.
 ghost use Rattle.std.specs.Prelude.{◌≡◌, ◌+◌, ◌≤◌, not, ◌&&◌, [], ◌∷◌, ◌++◌, length, take, drop, nat_le, slice_index};
 ghost use Rattle.telegram.specs.Numbers.{refused, refuse, done, checksums_as};
-ghost use Rattle.capture.specs.State.{stopped_for, checksums_in, standing_of};
+ghost use Rattle.capture.specs.State.{stopped_for, checksums_in, standing_of, state_of};
 ghost use Rattle.reader.specs.Layout.{reader_size, begun_as, reason_in, standing_in, count_in, position_in, carried_bytes, held_as, state_in};
 
 use capture::{Phase, Reading};
@@ -87,16 +87,16 @@ fn carried_in(phase: Phase, mem: &[u8]) -> [u8; 12]
 }
 
 // The state in memory whose first byte says open: it holds no checksums, so bytes 10 to 20 are carried as they stand.
-fn open_state(mem: &[u8]) -> Option<Reading>
+fn open_state(mem: &[u8]) -> Reading
     requires { (reader_size ≤ length mem.now) × (slice_index mem.now 0 ≡ 0) }
-    ensures { held_as result ≡ state_in mem.now }
+    ensures { done (state_of result) ≡ state_in mem.now }
 {
-    Some(Reading {
+    Reading {
         phase: Phase::Open,
         count: count_in(Phase::Open, mem[1]),
         position: position_in(mem),
         bytes: last_in(mem),
-    })
+    }
 }
 
 // The state in memory of 21 bytes or more, whatever its first byte says.
@@ -132,7 +132,7 @@ pub(crate) fn read_likely_open(mem: &[u8]) -> Option<Reading>
         return None;
     }
     if mem[0] == 0 {
-        return open_state(mem);
+        return Some(open_state(mem));
     }
     any_state(mem)
 }

@@ -7,6 +7,13 @@ ghost use Rattle.reader.specs.Layout.{reader_size, position_in, standing_byte, v
 use crate::found::sums_of;
 use capture::{Phase, Reading};
 
+// A reading that can be kept: its count fits in a byte.
+#[derive(Clone, Copy)]
+pub(crate) struct Kept {
+    pub reading: Reading,
+    ghost fits: { reading.count ≤ 255 },
+}
+
 // Byte 0 of a state, as docs/RECORD.md has it.
 fn standing_byte(phase: Phase) -> u8
     ensures { result ≡ standing_byte (standing_of phase) }
@@ -19,12 +26,11 @@ fn standing_byte(phase: Phase) -> u8
 }
 
 // Byte 1 of a state.
-fn value_byte(phase: Phase, count: usize) -> u8
-    requires { count ≤ 11 }
-    ensures { result ≡ value_byte (standing_of phase) count }
+fn value_byte(kept: Kept) -> u8
+    ensures { result ≡ value_byte (standing_of kept.reading.phase) kept.reading.count }
 {
-    match phase {
-        Phase::Open | Phase::Ended => count as u8,
+    match kept.reading.phase {
+        Phase::Open | Phase::Ended => kept.reading.count as u8,
         Phase::Stopped(e) => telegram::refusal_number(e),
     }
 }
@@ -37,14 +43,13 @@ pub(crate) fn position_bytes(p: u64) -> [u8; 8]
 }
 
 // The first ten bytes of a state.
-fn head_of(r: Reading) -> [u8; 10]
-    requires { r.count ≤ 11 }
-    ensures { result ≡ state_head (state_of r) }
+fn head_of(kept: Kept) -> [u8; 10]
+    ensures { result ≡ state_head (state_of kept.reading) }
 {
-    let b = position_bytes(r.position);
+    let b = position_bytes(kept.reading.position);
     [
-        standing_byte(r.phase),
-        value_byte(r.phase, r.count),
+        standing_byte(kept.reading.phase),
+        value_byte(kept),
         b[0],
         b[1],
         b[2],
@@ -56,7 +61,7 @@ fn head_of(r: Reading) -> [u8; 10]
     ]
 }
 
-// Writes two parts to the front of memory, one behind the other.
+// Writes two parts to the front of memory, one behind the other. (`osp` writes a pair too, into a room that may be too small.)
 fn write_parts(head: &[u8], rest: &[u8], mem: &mut [u8])
     requires { length head.now + length rest.now ≤ length mem.old }
     ensures { mem.new ≡ front (head.now ++ rest.now) mem.old }
@@ -79,20 +84,20 @@ fn kept_bytes(r: Reading) -> [u8; 12]
 }
 
 // Keeps a state in memory; bytes behind it stay.
-pub(crate) fn keep(r: Reading, mem: &mut [u8])
-    requires { (r.count ≤ 11) × (reader_size ≤ length mem.old) }
-    ensures { mem.new ≡ holding (state_of r) mem.old }
+pub(crate) fn keep(kept: Kept, mem: &mut [u8])
+    requires { reader_size ≤ length mem.old }
+    ensures { mem.new ≡ holding (state_of kept.reading) mem.old }
 {
-    let head = head_of(r);
-    let bytes = kept_bytes(r);
+    let head = head_of(kept);
+    let bytes = kept_bytes(kept.reading);
     write_parts(&head, &bytes[..11], mem);
 }
 
 // Keeps an open state in memory that holds one at the same position: only the count and the bytes carried change.
-pub(crate) fn keep_carried(r: Reading, mem: &mut [u8])
-    requires { (r.count ≤ 11) × (reader_size ≤ length mem.old) × (standing_of r.phase ≡ going) × (slice_index mem.old 0 ≡ 0) × (position_in mem.old ≡ r.position) }
-    ensures { mem.new ≡ holding (state_of r) mem.old }
+pub(crate) fn keep_carried(kept: Kept, mem: &mut [u8])
+    requires { (reader_size ≤ length mem.old) × (standing_of kept.reading.phase ≡ going) × (slice_index mem.old 0 ≡ 0) × (position_in mem.old ≡ kept.reading.position) }
+    ensures { mem.new ≡ holding (state_of kept.reading) mem.old }
 {
-    mem[1] = r.count as u8;
-    mem[10..21].copy_from_slice(&r.bytes[..11]);
+    mem[1] = kept.reading.count as u8;
+    mem[10..21].copy_from_slice(&kept.reading.bytes[..11]);
 }

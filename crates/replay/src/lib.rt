@@ -2,14 +2,11 @@
 // table, as JSON or as a picture. docs/TOOL.md has the forms.
 #![tactic(auto)]
 
-mod fresh;
-
 use complaint::{Complaint, Status, Subcommand, Voice};
 use files::{Output, Stop};
-use fresh::{chain_memory, make};
 use lamps::Look;
 use lines::Style;
-use options::{Options, options_of};
+use options::{ChainOptions, Options, chain_options};
 use rules::Place;
 use script::Run;
 use std::rt::Files;
@@ -32,20 +29,21 @@ fn print_chain<R: Print>(run: &mut Run<R>, look: Look, count: u16) -> Result<(),
 }
 
 // Opens the script, or the capture, does it, and prints the chain after it. Answers the refusal of the capture itself, if it was refused.
+// (The number of lamps is a u16, since no chain has more than 1,007.)
 fn play<R: Files + Input + Print>(
     rt: &R,
     run: &mut Run<R>,
-    o: &Options,
+    o: &ChainOptions,
     look: Look,
 ) -> Result<Option<Refusal>, Stop> {
-    let mut input = files::open_file(rt, o.file)?;
+    let mut input = files::open_file(rt, o.options.file)?;
     let refusal = if o.raw {
         raw::do_capture(run, &mut input)?
     } else {
         files::read_chunks(run, &mut input)?;
         None
     };
-    print_chain(run, look, (o.lamps % 65536) as u16)?;
+    print_chain(run, look, u16::try_from(o.lamps).unwrap_or(0))?;
     Ok(refusal)
 }
 
@@ -69,9 +67,9 @@ fn say_silent(voice: Voice, either: bool, position: u64, refusal: Option<Refusal
 }
 
 // Says what is not printed of a run that came to its end. Answers the status.
-fn conclude<R>(voice: Voice, run: &Run<R>, o: &Options, refusal: Option<Refusal>) -> Status {
+fn conclude<R>(voice: Voice, run: &Run<R>, raw: bool, refusal: Option<Refusal>) -> Status {
     if run.refused && voice.subcommand == Subcommand::Board {
-        say_refused(voice, o.raw);
+        say_refused(voice, raw);
     }
     if run.style == Style::Silent {
         say_silent(voice, run.either, run.done, refusal);
@@ -79,56 +77,55 @@ fn conclude<R>(voice: Voice, run: &Run<R>, o: &Options, refusal: Option<Refusal>
     Status::of(run.refused || refusal.is_some())
 }
 
+// How many bytes of memory are enough for the largest chain.
+const LARGEST_CHAIN: usize = 16384;
+
 // The script or the capture, then the chain. Answers the status.
 fn show<R: Files + Input + Print>(
     rt: &R,
-    o: &Options,
+    o: &ChainOptions,
     style: Style,
     look: Look,
     voice: Voice,
 ) -> Status {
-    let mut memory = chain_memory();
+    let mut memory = [0u8; LARGEST_CHAIN];
     let mut room = io::large_buffer();
-    if let Err(e) = make(&mut memory, o) {
+    if let Err(e) = chain::make(&mut memory, o.lamps as usize, o.defaults) {
         return voice.say(Complaint::Refused(e));
     }
     let mut run = Run::over(Output::over(rt, &mut room), &mut memory, style);
     match play(rt, &mut run, o, look) {
-        Ok(refusal) => conclude(voice, &run, o, refusal),
-        Err(stop) => stop.say(voice, o.file),
+        Ok(refusal) => conclude(voice, &run, o.raw, refusal),
+        Err(stop) => stop.say(voice, o.options.file),
     }
 }
 
 // What a replay prints of each line.
-fn style_of(o: &Options) -> Style {
+fn style_of(o: Options) -> Style {
     if o.quiet {
         return Style::Silent;
     }
     if o.json { Style::Json } else { Style::Text }
 }
 
+// How a replay shows the chain.
+fn look_of(o: Options) -> Look {
+    if o.json { Look::Objects } else { Look::Table }
+}
+
 // The subcommand replay, on the words behind its name. Answers its status.
 pub fn replay_file<R: Files + Input + Print>(rt: &R, line: &[u8], err: i32) -> Status {
-    let voice = Voice {
-        err,
-        subcommand: Subcommand::Replay,
-    };
-    match options_of(line, Subcommand::Replay) {
-        Ok(o) => {
-            let look = if o.json { Look::Objects } else { Look::Table };
-            show(rt, &o, style_of(&o), look, voice)
-        }
+    let voice = Voice::new(err, Subcommand::Replay);
+    match chain_options(line, Subcommand::Replay) {
+        Ok(o) => show(rt, &o, style_of(o.options), look_of(o.options), voice),
         Err(wrong) => voice.say(Complaint::InOptions(wrong)),
     }
 }
 
 // The subcommand board: a picture, and nothing of the lines.
 pub fn draw<R: Files + Input + Print>(rt: &R, line: &[u8], err: i32) -> Status {
-    let voice = Voice {
-        err,
-        subcommand: Subcommand::Board,
-    };
-    match options_of(line, Subcommand::Board) {
+    let voice = Voice::new(err, Subcommand::Board);
+    match chain_options(line, Subcommand::Board) {
         Ok(o) => show(rt, &o, Style::Silent, Look::Picture, voice),
         Err(wrong) => voice.say(Complaint::InOptions(wrong)),
     }

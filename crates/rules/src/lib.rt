@@ -49,7 +49,8 @@ pub struct Defaults {
     pub thresholds: Thresholds,
 }
 
-// A lamp. The direction is COM, one bit of the status byte as the rules have it: false is bidirectional, true is loop.
+// A lamp. The direction is COM, one bit of the status byte as the rules have it: false is bidirectional, true is loop. An address of 3FF
+// says that it has none, as on the chain.
 #[derive(Clone, Copy)]
 pub struct Lamp {
     pub address: Address,

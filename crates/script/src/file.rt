@@ -1,13 +1,13 @@
 // A script read from its file: chunk by chunk, with what is not a whole line yet carried.
 use crate::Run;
 use files::{Chunks, Stop};
-use lines::Holds;
+use lines::{Holds, LONGEST_LINE};
 
 impl<'r, 'a, R: Print> Chunks for Run<'r, 'a, R> {
-    // A line of more than 65,000 bytes is malformed.
+    // A line that is not whole is malformed as soon as more of it is there than a line may have.
     fn take_chunk(&mut self, s: &[u8], _have: usize) -> Result<Option<usize>, Stop> {
         let next = self.do_lines(s, Holds::Lines)?;
-        if 65000 < s.len().saturating_sub(next) {
+        if LONGEST_LINE < s.len().saturating_sub(next) {
             return Err(self.malformed());
         }
         Ok(Some(next))

@@ -11,7 +11,7 @@ use telegram::Address;
 // How many bytes a slot has.
 pub const SIZE: usize = 16;
 
-// The state in a status byte: every byte has one, so no TryFrom.
+// The state in a status byte. (No `From`: the byte holds the direction and the flags too.)
 fn state_in(b: u8) -> State
     ensures { result ≡ state_in b }
 {

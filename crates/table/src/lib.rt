@@ -16,7 +16,8 @@ pub enum Casts {
     First,
 }
 
-// A row of the table: the casts, and how many bytes the payload and the answer have.
+// A row of the table: the casts, and how many bytes the payload and the answer have (0 where there is no answer, as the definitions have
+// it).
 #[derive(Clone, Copy)]
 pub struct Row {
     pub casts: Casts,
@@ -33,7 +34,8 @@ pub enum Cast {
     Group(u8),
 }
 
-// The table's row for a command number; none for a number that it does not have.
+// The table's row for a command number; none for a number that it does not have. (Numbers, here and in the rules: so the definitions
+// have them.)
 #[tactic(auto, unfolding(crate::specs::Table::row_of))]
 pub fn row_of(command: u8) -> Option<Row>
     ensures { outcome_or 6 result ≡ row_of command }
@@ -87,7 +89,7 @@ pub fn plain_number(n: u8) -> u8
     n
 }
 
-// Whether the table's column lists a cast.
+// Whether the table's column lists a cast. Each column has its arm: `matches!` would be no plainer.
 pub fn cast_listed(casts: Casts, cast: Cast) -> bool
     ensures { result ≡ cast_listed casts cast }
 {
@@ -140,7 +142,7 @@ pub fn address_of(cast: Cast) -> u16
     }
 }
 
-// Whether a single-lamp or first address is 001 to 3EF, and a group at most 14.
+// Whether a single-lamp or first address is 001 to 3EF, and a group at most 14. Each cast has its arm: `matches!` would be no plainer.
 pub fn cast_in_range(cast: Cast) -> bool
     ensures { result ≡ cast_in_range cast }
 {

@@ -10,11 +10,12 @@ ghost use Rattle.telegram.specs.Telegram.{index_from, size_of, framing, reading,
 
 pub use refusals::{checksums_of, refusal_number, refusal_of, refusal_value};
 
-// An address on the chain, of 10 bits. A lamp's place in the chain is another kind of number, with a type of its own.
+// An address: on the chain it has 10 bits, and the builder refuses a larger one. A lamp's place is another kind of number, with a type of
+// its own.
 #[derive(Clone, Copy, PartialEq, Eq)]
 pub struct Address(pub u16);
 
-// A telegram that was read. Its payload stays in the slice: `size` bytes from index 3 on.
+// A telegram that was read. Its payload stays in the slice: `size` bytes from index 3 on (the definitions have these three fields).
 #[derive(Clone, Copy)]
 pub struct Telegram {
     pub address: Address,
@@ -178,7 +179,7 @@ fn write_header(a: u16, index: u8, c: u8, out: &mut [u8])
     out[2] = byte_2(index, c);
 }
 
-// Copies `src` into `dst`, from the index `at` on.
+// Copies `src` into `dst`, from the index `at` on. `chain` has its own (`put_bytes`): a public function has no `requires`.
 fn put_at(src: &[u8], dst: &mut [u8], at: usize)
     requires { at + length src.now ≤ length dst.old }
     ensures { dst.new ≡ (take at dst.old ++ src.now) ++ drop (at + length src.now) dst.old }

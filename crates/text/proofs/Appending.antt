@@ -1,6 +1,6 @@
--- How code appends a word: by no store where it does not fit, else by a copy or by a store for each byte.
+-- How code appends a word: by no store where it does not fit, else by a copy or by a store of its one byte.
 -- Assumes nothing.
-use Rattle.std.proofs.Common.{◌≡◌, ℕ, suc, ◌+◌, ◌-◌, ◌<◌, ◌≤◌, List, [], ◌∷◌, ◌++◌, map, length, get_or, take, drop, set, replicate, sym, ap, ◌∙◌, ap₂, append_assoc, add-one, arith, drop_of_length-le, drop-cons, le-leb}
+use Rattle.std.proofs.Common.{◌≡◌, ℕ, suc, ◌+◌, ◌-◌, ◌<◌, ◌≤◌, List, [], ◌∷◌, ◌++◌, map, length, get_or, take, drop, set, replicate, sym, ap, ◌∙◌, append_assoc, add-one, arith, drop_of_length-le, drop-cons, le-leb}
 use lib.Seq.{sets-eq}
 use borrow.Author.Tests.{lt-leb}
 use borrow.Rule.Slice.PartMut.{put_mid, Post-is}
@@ -28,13 +28,6 @@ module _ (word out : List ℕ) (at : ℕ) where
 -- what a store of one byte leaves
 pub stored : (b : ℕ) (out : List ℕ) (at : ℕ) → at < length out → text (at + 1) (set out at b) ≡ appended (b ∷ []) (text at out)
 stored b out at h = fitting (b ∷ []) out at (omega arith) (sets-eq (b ∷ []) out at (omega arith))
-
--- what a store of three bytes leaves
-pub stored3 : (x y z : ℕ) (out : List ℕ) (at : ℕ) → at + 3 ≤ length out
-    → text (at + 3) (set (set (set out at x) (at + 1) y) (at + 2) z) ≡ appended (x ∷ y ∷ z ∷ []) (text at out)
-stored3 x y z out at h =
-    fitting (x ∷ y ∷ z ∷ []) out at h
-    (ap₂ (λ (i j : ℕ). set (set (set out at x) i y) j z) (omega arith) (omega arith) ∙ sets-eq (x ∷ y ∷ z ∷ []) out at h)
 
 -- A turn of a loop over the bytes of s, and its end.
 module _ (f : ℕ → List ℕ) (s : List ℕ) (i : ℕ) (u : Text) {t : Text} (all : appended_all (map f (drop i s)) u ≡ t) where

@@ -1,4 +1,5 @@
-// The digits of a number: in hex, and in decimal in five places.
+// The digits of a number: in hex, and in decimal in five places. A replay prints them for each telegram: `write!` takes longer
+// (docs/DECISIONS.md).
 ghost use Rattle.std.specs.Prelude.{◌≡◌, ◌+◌, ◌/◌, ◌%◌, ◌∷◌, ◌++◌, if◌then◌else◌, nat_eq};
 ghost use Rattle.text.specs.Putting.{hex_digit, in_hex, empty_places, in_five};
 

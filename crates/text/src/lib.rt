@@ -1,5 +1,5 @@
-// Text for people: words, numbers and hex put into a lent buffer, and read from a line. What does not fit is left out, and every
-// function takes every argument, so that callers have nothing to show.
+// Text for people: words, numbers and hex put into a lent buffer, and read from a line. What does not fit is left out; no public function
+// has a `requires`.
 #![tactic(auto)]
 
 mod digits;
@@ -21,8 +21,7 @@ pub fn within(n: usize, s: &[u8]) -> usize
     ensures prefix_len { IsPrefixLen result s.now }
     ensures value { result ≡ min n (length s.now) }
 {
-    let most = s.len();
-    if n < most { n } else { most }
+    n.min(s.len())
 }
 
 // The first n bytes; all where there are not so many.

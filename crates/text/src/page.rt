@@ -1,9 +1,10 @@
 // A lent buffer that is written from the front.
-ghost use Rattle.std.specs.Prelude.{◌≡◌, ◌-◌, ◌/◌, ◌%◌, ◌++◌, [], ◌∷◌, map, take, drop, replicate};
-ghost use Rattle.text.specs.Putting.{text, appended, appended_all, spaces, in_hex, spaced_hex, decimal, argument, unseparated};
+ghost use Rattle.std.specs.Prelude.{◌≡◌, ℕ, List, ◌-◌, ◌/◌, ◌%◌, ◌++◌, [], ◌∷◌, map, take, drop, replicate};
+ghost use Rattle.text.specs.Putting.{text, appended, appended_all, spaces, in_hex, spaced_hex, decimal, argument};
 
 use crate::digits::{digit, empty_places, five, hex_five};
 use crate::{first, from};
+use std::convert::AsSlice;
 use std::fmt;
 use std::fmt::Write;
 
@@ -14,7 +15,7 @@ pub struct Page<'a> {
     pub used: usize,
 }
 
-// (The clause `same_room` stands at each: Rattle asks for it of each function that takes the page as `&mut`.)
+// (The clause `same_room` stands at each method that says what the room holds after it: Rattle asks for it there.)
 impl<'a> Page<'a> {
     // A page over a buffer, with nothing written.
     pub fn over(room: &'a mut [u8]) -> Page<'a>
@@ -90,7 +91,7 @@ impl<'a> Page<'a> {
         ensures same_room { self.new.room.ghost_name ≡ self.old.room.ghost_name }
         ensures put { text self.new.used self.new.room.now ≡ appended (in_hex b) (text self.old.used self.old.room.now) }
     {
-        self.put(&[digit(b / 16), digit(b)]);
+        self.put(&in_hex(b));
     }
 
     // Appends a word in hex, four digits.
@@ -138,9 +139,7 @@ impl<'a> Page<'a> {
         ensures same_room { self.new.room.ghost_name ≡ self.old.room.ghost_name }
         ensures put { text self.new.used self.new.room.now ≡ appended_all (map in_hex s.now) (text self.old.used self.old.room.now) }
     {
-        for b in s {
-            self.put_hex(*b);
-        }
+        self.put_each(s, in_hex);
     }
 
     // Appends each byte in hex with a space before it.
@@ -148,23 +147,7 @@ impl<'a> Page<'a> {
         ensures same_room { self.new.room.ghost_name ≡ self.old.room.ghost_name }
         ensures put { text self.new.used self.new.room.now ≡ appended_all (map spaced_hex s.now) (text self.old.used self.old.room.now) }
     {
-        for b in s {
-            self.put_next(*b);
-        }
-    }
-
-    fn put_next(&mut self, b: u8)
-        ensures same_room { self.new.room.ghost_name ≡ self.old.room.ghost_name }
-        ensures put { text self.new.used self.new.room.now ≡ appended (spaced_hex b) (text self.old.used self.old.room.now) }
-    {
-        let room = self.room.len();
-        let at = self.used;
-        if at <= room && 3 <= room - at {
-            self.room[at] = b' ';
-            self.room[at + 1] = digit(b / 16);
-            self.room[at + 2] = digit(b);
-            self.used = at + 3;
-        }
+        self.put_each(s, spaced_hex);
     }
 
     // Appends arguments as words of a line: the byte 0 behind each is a space.
@@ -172,17 +155,43 @@ impl<'a> Page<'a> {
         ensures same_room { self.new.room.ghost_name ≡ self.old.room.ghost_name }
         ensures put { text self.new.used self.new.room.now ≡ appended_all (map argument arguments.now) (text self.old.used self.old.room.now) }
     {
-        for b in arguments {
-            self.put_byte(unseparated(*b));
+        self.put_each(arguments, argument);
+    }
+
+    // Appends for each byte the word that a form gives for it.
+    fn put_each<W: AsSlice<u8> + Drop, F: Fn(u8) -> W>(&mut self, s: &[u8], form: F)
+        requires { F.IsAlwaysCallable form }
+        ensures same_room { self.new.room.ghost_name ≡ self.old.room.ghost_name }
+        ensures put { (word : ℕ → List ℕ) → ((b : _) (w : _) → F.post form b w → W.items w ≡ word b) → text self.new.used self.new.room.now ≡ appended_all (map word s.now) (text self.old.used self.old.room.now) }
+    {
+        for b in s {
+            self.put(form(*b).as_slice());
         }
     }
 }
 
-// A byte 0, which separates arguments, as a space.
-fn unseparated(b: u8) -> u8
-    ensures { result ≡ unseparated b }
+// A byte in hex.
+#[tactic(auto, unfolding(crate::specs::Putting::in_hex))]
+fn in_hex(b: u8) -> [u8; 2]
+    ensures { result ≡ in_hex b }
 {
-    if b == 0 { b' ' } else { b }
+    [digit(b / 16), digit(b)]
+}
+
+// A byte in hex with a space before it.
+#[tactic(auto, unfolding(crate::specs::Putting::spaced_hex, crate::specs::Putting::in_hex))]
+fn spaced_hex(b: u8) -> [u8; 3]
+    ensures { result ≡ spaced_hex b }
+{
+    [b' ', digit(b / 16), digit(b)]
+}
+
+// A byte of the arguments; the byte 0, which separates them, as a space.
+#[tactic(auto, unfolding(crate::specs::Putting::argument, crate::specs::Putting::unseparated))]
+fn argument(b: u8) -> [u8; 1]
+    ensures { result ≡ argument b }
+{
+    [if b == 0 { b' ' } else { b }]
 }
 
 impl<'a> fmt::Write for Page<'a> {

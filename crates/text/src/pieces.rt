@@ -3,7 +3,8 @@ ghost use Rattle.std.specs.Prelude.{◌≡◌, ◌≢◌, ℕ, ◌<◌, ◌≤�
 
 use crate::byte_at;
 
-// The index of the first byte b from one index up to another; the end where there is none. Behind a text stand bytes 0.
+// The index of the first byte b from one index up to another; the end where there is none (docs/PROMISES.md names the function). Behind a
+// text stand bytes 0.
 pub fn find(s: &[u8], at: usize, end: usize, b: u8) -> usize
     ensures low { at ≤ end → at ≤ result }
     ensures high { result ≤ end }

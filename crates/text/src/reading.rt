@@ -26,7 +26,7 @@ impl<'a> Words<'a> {
         Words { line, at: 0 }
     }
 
-    // The next word; an empty one at the end (no Option: an empty word is told as a word, and is none of the names).
+    // The next word; an empty one where none is left. (No Option: a complaint shows the word that it got, and no name is empty.)
     pub fn next_word(&mut self) -> &'a [u8] {
         let start = skip(self.line, self.at, false);
         self.at = skip(self.line, start, true);
@@ -104,7 +104,7 @@ fn gap_at(s: &[u8], i: usize) -> usize {
 }
 
 // Reads bytes of two hex digits, and gaps between them, from an index on, up to anything else. Those that fit are stored (fixed memory:
-// no heap in the tool).
+// no heap in the tool). Each step but the last moves the index, by one or more, so that there are at most as many as bytes.
 pub fn hex_at(s: &[u8], from: usize, bytes: &mut [u8]) -> Hex {
     let mut h = Hex { at: from, count: 0 };
     for _ in 0..s.len() {
@@ -130,21 +130,21 @@ pub fn decimal_of(s: &[u8]) -> Option<u32> {
     Some(s.iter().fold(0, |n, b| with_decimal(n, *b % 16)))
 }
 
+// A hex digit behind others; what is above FFFF is taken as it.
+fn with_hex(n: u16, d: u8) -> u16 {
+    n.saturating_mul(16).saturating_add(d as u16)
+}
+
 // A hex number of any length in one word; what is above FFFF is taken as it.
-pub fn address_of(s: &[u8]) -> Option<u32> {
+pub fn address_of(s: &[u8]) -> Option<u16> {
     if s.is_empty() {
         return None;
     }
-    let mut n: u32 = 0;
+    let mut n = 0;
     for b in s {
         n = with_hex(n, digit_value(*b)?);
     }
     Some(n)
-}
-
-fn with_hex(n: u32, d: u8) -> u32 {
-    let next = n % 65536 * 16 + (d % 16) as u32;
-    if next < 65535 { next } else { 65535 }
 }
 
 // The byte that a word of two hex digits says.

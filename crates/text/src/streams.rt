@@ -2,7 +2,7 @@
 use crate::Page;
 use std::io::Error;
 
-// The descriptors of standard input, standard output and standard error.
+// The descriptors of standard input, standard output and standard error: numbers, as `io` takes them.
 pub const IN: i32 = 0;
 
 pub const OUT: i32 = 1;

@@ -68,10 +68,7 @@ fn run_first<R: Files + Input + Print>(
     gathered: Result<(), FillError>,
 ) -> Status {
     if gathered.is_err() {
-        let voice = Voice {
-            err: text::ERR,
-            subcommand: Subcommand::Arguments,
-        };
+        let voice = Voice::new(text::ERR, Subcommand::Arguments);
         return voice.say(Complaint::TooLong);
     }
     if line == b"script\0".as_slice() {
@@ -96,10 +93,7 @@ fn run_line<R: Files + Input + Print>(rt: &R, line: &[u8], err: i32) -> Status {
 
 // The subcommands that take one word at most.
 fn run_other<R: Print>(rt: &R, word: &[u8], rest: &[u8], err: i32) -> Status {
-    let voice = Voice {
-        err,
-        subcommand: Subcommand::Help,
-    };
+    let voice = Voice::new(err, Subcommand::Help);
     let (first, more) = split_word(rest);
     if !more.is_empty() {
         return voice.say(Complaint::OneWord(word));
@@ -112,7 +106,8 @@ fn run_other<R: Print>(rt: &R, word: &[u8], rest: &[u8], err: i32) -> Status {
     }
 }
 
-// Puts a line of a script as arguments: for each space, which separates its words, the byte 0, and one behind them.
+// Puts a line of a script as arguments: for each space, which separates its words, the byte 0, and one behind them. (`put_arguments` of a
+// page goes the other way: it puts a space for each byte 0.)
 fn put_words(page: &mut Page, line: &[u8]) {
     for b in line {
         page.put_byte(if *b == b' ' { 0 } else { *b });
@@ -141,9 +136,6 @@ fn run_script<R: Files + Input + Print>(rt: &R) {
     let mut space = io::large_buffer();
     let n = io::read_full(text::IN, &mut space);
     for line in space[..n].split_inclusive(|b| *b == b'\n') {
-        run_script_line(
-            rt,
-            text::first(line, text::find(line, 0, line.len(), b'\n')),
-        );
+        run_script_line(rt, line.strip_suffix(b"\n").unwrap_or(line));
     }
 }

@@ -1,50 +1,42 @@
-// What a telegram is: a command, an answer or either, in words, or refused as both.
+// What a telegram is: a command, an answer or either, in words, or why it is none.
 #![tactic(auto)]
 
-use telegram::Refusal;
+use telegram::{Refusal, Telegram};
 use text::Page;
 use words::Message;
 
-// A command, an answer, either of them, with its numbers, or its refusals as a command and as an answer.
+// A command, an answer or either of them, with its numbers; what the reader refuses, which is no telegram; or a telegram that is neither,
+// with its refusals as a command and as an answer.
 #[derive(Clone, Copy)]
 pub enum Verdict<'a> {
     Sent(Message<'a>),
     Given(Message<'a>),
     Either(Message<'a>),
-    Refused(Refusal, Refusal),
+    Unread(Refusal),
+    Neither(Refusal, Refusal),
 }
 
-// What the bytes of one telegram are. Both dissectors refuse a frame alike.
+// What the bytes of one telegram are.
 pub fn judge(s: &[u8]) -> Verdict<'_> {
-    match words::message_of(s) {
-        Ok(m) => judge_message(s, m),
-        Err(e) => Verdict::Refused(e, e),
+    match telegram::read_telegram(s) {
+        Ok(t) => judge_telegram(s, t),
+        Err(e) => Verdict::Unread(e),
     }
 }
 
-// What a telegram with a right frame is. A command that is not acknowledged is no answer: if it has one, it has no payload.
-fn judge_message<'a>(s: &[u8], m: Message<'a>) -> Verdict<'a> {
-    match refusal_sent(s) {
-        None if !table::is_acknowledged(m.number) => Verdict::Sent(m),
-        None => match refusal_given(s) {
-            None => Verdict::Either(m),
-            Some(_) => Verdict::Sent(m),
-        },
-        Some(command) => match refusal_given(s) {
-            None => Verdict::Given(m),
-            Some(answer) => Verdict::Refused(command, answer),
-        },
+// What a telegram that was read is. A command that is not acknowledged is no answer: if it has one, it has no payload.
+fn judge_telegram(s: &[u8], t: Telegram) -> Verdict<'_> {
+    let m = words::message_in(s, t);
+    let sent = command::heading_of(t);
+    if sent.is_ok() && !table::is_acknowledged(t.command) {
+        return Verdict::Sent(m);
     }
-}
-
-// A telegram's refusal as a command.
-fn refusal_sent(s: &[u8]) -> Option<Refusal> {
-    command::dissect(s).err()
-}
-
-// Its refusal as an answer.
-fn refusal_given(s: &[u8]) -> Option<Refusal> {
-    answer::dissect_answer(s).err()
+    match (sent, answer::dissect_answer(s)) {
+        (Ok(_), Ok(_)) => Verdict::Either(m),
+        (Ok(_), Err(_)) => Verdict::Sent(m),
+        (Err(_), Ok(_)) => Verdict::Given(m),
+        (Err(command), Err(answer)) => Verdict::Neither(command, answer),
+    }
 }
 
 // Appends the words of a telegram that is accepted, of one that is either both; nothing of one that is refused.
@@ -57,6 +49,6 @@ pub fn put_words(page: &mut Page, v: Verdict) {
             page.put(b", or ");
             words::put_answer(page, m);
         }
-        Verdict::Refused(_, _) => {}
+        Verdict::Unread(_) | Verdict::Neither(_, _) => {}
     }
 }

@@ -1,74 +1,83 @@
 // Lists: the flags of a status byte, the groups of a group word.
+ghost use Rattle.std.specs.Iterator.{IsFinite};
+
 use text::Page;
 
-// The name of the flag at a bit of a status byte; bits 4, 6 and 7 are none.
-fn flag_name(bit: u8) -> Option<&'static str> {
-    match bit {
-        0 => Some("UV"),
-        1 => Some("OT"),
-        2 => Some("LOS"),
-        3 => Some("CE"),
-        5 => Some("OTPCRC"),
-        _ => None,
-    }
-}
+// The bits of a status byte that are flags, the highest first, and their names.
+const FLAGS: [(u8, &[u8]); 5] = [
+    (5, b"OTPCRC"),
+    (3, b"CE"),
+    (2, b"LOS"),
+    (1, b"OT"),
+    (0, b"UV"),
+];
 
-// The name of the flag at a bit, if it is set.
-fn flag_set(status: u8, bit: u8) -> Option<&'static str> {
-    if status >> (bit % 8) & 1 == 1 {
-        flag_name(bit)
-    } else {
-        None
+// Appends each item whose bit is set in a word, with a character between them, or other words where none is.
+fn put_set<T: Copy, I: Iterator<Item = (u8, T)> + Drop, F: Fn(&mut Page, T)>(
+    page: &mut Page,
+    items: I,
+    word: u16,
+    between: u8,
+    none: &[u8],
+    put_item: F,
+)
+    requires callable { F.IsAlwaysCallable put_item }
+    requires can { I.can_next items }
+    requires ends { IsFinite (I.remaining items) }
+{
+    let start = page.used;
+    for (bit, item) in items {
+        if word >> (bit % 16) & 1 == 1 {
+            if page.used != start {
+                page.put_byte(between);
+            }
+            put_item(page, item);
+        }
+    }
+    if page.used == start {
+        page.put(none);
     }
 }
 
 // Appends the flags of a status byte with a space between them, the highest first, or other words where none is set.
 pub fn put_flags(page: &mut Page, status: u8, none: &[u8]) {
-    let start = page.used;
-    for bit in (0..6).rev() {
-        if let Some(name) = flag_set(status, bit) {
-            put_between(page, start, b' ');
-            page.put(name.as_bytes());
-        }
-    }
-    put_none(page, start, none);
+    put_set(
+        page,
+        FLAGS.iter().copied(),
+        status as u16,
+        b' ',
+        none,
+        |p, name| p.put(name),
+    );
+}
+
+// Appends a name as a string of an array.
+fn put_string(page: &mut Page, name: &[u8]) {
+    page.put_byte(b'"');
+    page.put(name);
+    page.put_byte(b'"');
 }
 
 // Appends the flags of a status byte as strings of an array, nothing where none is set.
 pub fn put_flag_strings(page: &mut Page, status: u8) {
-    let start = page.used;
-    for bit in (0..6).rev() {
-        if let Some(name) = flag_set(status, bit) {
-            put_between(page, start, b',');
-            page.put_byte(b'"');
-            page.put(name.as_bytes());
-            page.put_byte(b'"');
-        }
-    }
+    put_set(
+        page,
+        FLAGS.iter().copied(),
+        status as u16,
+        b',',
+        b"",
+        put_string,
+    );
 }
 
 // Appends the numbers of the bits that are set in a group word, with a character between them, or other words where none is set.
 pub fn put_groups(page: &mut Page, groups: u16, between: u8, none: &[u8]) {
-    let start = page.used;
-    for bit in 0..16u16 {
-        if groups >> (bit % 16) & 1 == 1 {
-            put_between(page, start, between);
-            page.put_decimal(bit as u64);
-        }
-    }
-    put_none(page, start, none);
-}
-
-// Appends what stands between two items, where one stands before.
-fn put_between(page: &mut Page, start: usize, between: u8) {
-    if page.used != start {
-        page.put_byte(between);
-    }
-}
-
-// Appends the words for an empty list.
-fn put_none(page: &mut Page, start: usize, none: &[u8]) {
-    if page.used == start {
-        page.put(none);
-    }
+    put_set(
+        page,
+        (0..16).map(|group| (group, group)),
+        groups,
+        between,
+        none,
+        |p, group| p.put_decimal(group as u64),
+    );
 }

@@ -44,7 +44,8 @@ pub fn command_named(word: &[u8]) -> Option<u8> {
     (0..0x80).find(|n| known_name(*n).is_some_and(|name| name.as_bytes() == word))
 }
 
-// The name of the state in a status byte (no State: of an answer only the byte is there).
+// The name of the state in a status byte. (No `State`: an answer holds the byte alone, and of a lamp `lamps` makes the byte anyway, for its
+// flags.)
 pub fn state_name(status: u8) -> &'static str {
     match status / 64 {
         0 => "UNINITIALIZED",

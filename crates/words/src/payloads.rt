@@ -16,7 +16,7 @@ pub(crate) fn put_payload(page: &mut Page, number: u8, payload: &[u8]) {
     }
 }
 
-// Appends three PWM words, red, green and blue (by `put`, no `write!`: hot, a replay prints these for every line).
+// Appends three PWM words, red, green and blue.
 fn put_colours(page: &mut Page, payload: &[u8]) {
     put_pwm(page, b": red day ", b": red night ", word_in(payload));
     put_pwm(
@@ -33,7 +33,8 @@ fn put_colours(page: &mut Page, payload: &[u8]) {
     );
 }
 
-// Appends a PWM word, whose top bit is the mode, behind its colour and mode.
+// Appends a PWM word, whose top bit is the mode, behind its colour and mode. (`command::pwm_of` splits it so: this crate does not rest on
+// `command`.)
 fn put_pwm(page: &mut Page, day: &[u8], night: &[u8], word: u16) {
     page.put(if word < 32768 { night } else { day });
     page.put_decimal((word % 32768) as u64);

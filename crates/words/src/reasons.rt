@@ -63,7 +63,7 @@ pub fn put_number(page: &mut Page, refusal: Option<Refusal>) {
     }
 }
 
-// Appends its checksums for an object; nothing where it is none of a checksum.
+// Appends the checksums of a wrong one for an object; of any other refusal nothing.
 fn put_checksums(page: &mut Page, e: Refusal) {
     if let Refusal::Checksum(computed, received) = e {
         let _ = write!(page, ",\"computed\":{computed},\"received\":{received}");

@@ -74,8 +74,8 @@ each c =
     bytes-append (carried_in (state_of a.carried)) (drop a.at a.chunk.now) (bytes_take a.carried.count a.carried.bytes (λ i. (byte c i).fits))
     (bytes_drop a.at a.chunk.now (λ i. omega (arith, c.type_inv.chunk i)))
 
-pub overflow_sub-count : goal.overflow_sub-count
-overflow_sub-count c = omega (arith, (left _ c.requires.0).few)
+pub overflow_sub-carried : goal.overflow_sub-carried
+overflow_sub-carried c = omega (arith, (left _ c.requires.0).few)
 
 pub placed-bytes-requires : goal.placed-bytes-requires
 placed-bytes-requires c = simp length-take (omega (arith, (left _ c.requires.0).few))

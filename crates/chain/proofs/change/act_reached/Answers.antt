@@ -10,5 +10,5 @@ use Rattle.chain.proofs.change.act_reached.Goals as goal
 
 pub returns-else-is_reached : goal.returns-else-is_reached
 returns-else-is_reached c = let a = c.args in
-    sym (with-self a.mem.now a.p.0 (search rules) c.requires.0)
+    sym (with-self a.mem.now a.p.0 (search rules) c.requires)
     ∙ ap (with_lamp a.mem.now a.p.0) (passed-by (reached a.reach) (acted a.d (command_in a.order.number a.order.payload.now)) c.load_lamp.ensures c.is_reached.ensures c.if-is_reached.false)

@@ -19,7 +19,7 @@ use Rattle.chain.proofs.delivery.spread.Goals.{After-defaults_of-d, Start}
 -- memory holds a chain
 valid : (c : Start) → let mem = c.args.mem.now in
     Valid mem (decode mem)
-valid c = chain-in _ _ c.requires.0
+valid c = chain-in _ _ c.requires
 
 -- what each lamp that a reach has does is the walk
 held : (c : After-defaults_of-d) (reach : Reach) →
@@ -32,7 +32,7 @@ held c reach =
     let a = c.args in
     let m = command_in a.order.number a.order.payload.now in
     ap₂ (λ (d : Defaults) (n : ℕ). sweep (λ (p : ℕ) (l : Lamp). acted_in reach d m l) 0 n a.mem.now) c.defaults_of-d.ensures c.count_of-count.ensures
-    ∙ spread-held a.mem.now (search rules) (chain-in _ _ c.requires.0) m reach
+    ∙ spread-held a.mem.now (search rules) (chain-in _ _ c.requires) m reach
 
 pub count_of-count-requires : goal.count_of-count-requires
 unfolding decode
@@ -48,7 +48,7 @@ act_everyone-requires c = omega (arith, (valid (goal.at.act_everyone-requires c)
 
 pub act_lamps-requires : goal.act_lamps-requires
 unfolding decode
-act_lamps-requires c = (omega (arith, (valid (goal.at.act_lamps-requires c).Start).room, c.count_of-count.ensures), c.requires.1)
+act_lamps-requires c = omega (arith, (valid (goal.at.act_lamps-requires c).Start).room, c.count_of-count.ensures)
 
 pub returns-in-Everyone : goal.returns-in-Everyone
 unfolding decode

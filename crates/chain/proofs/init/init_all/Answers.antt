@@ -1,13 +1,16 @@
--- `chain::init::init_all` meets its contract: the walk marks each lamp.
+-- `chain::init::init_all` meets its contract: INITBIDIR marks each lamp, and the other init leaves them.
 -- Assumes nothing.
+use mathlib.Core.Path.{◌∙◌, sym}
 use native.Mathlib.Omega.{arith}
+use borrow.Author.Tests.{ne_eqb}
 use Rattle.chain.specs.Record.{decode}
+use Rattle.chain.proofs.Sweeps.{sweep-same}
 use Rattle.chain.proofs.Validity.{Valid, chain-in}
 use Rattle.chain.proofs.Responding.{told}
 use Rattle.chain.proofs.Inits.{init-marks}
 use borrow.Author.Rules.{rules}
 use Rattle.chain.proofs.init.init_all.Goals as goal
-use Rattle.chain.proofs.init.init_all.Goals.{Start}
+use Rattle.chain.proofs.init.init_all.Goals.{Start, then-order-eq2, else-order-eq2}
 
 -- memory holds a chain
 valid : (c : Start) → let mem = c.args.mem.now in
@@ -25,10 +28,16 @@ mark_lamps-requires c = omega (arith, (valid (goal.at.mark_lamps-requires c).Sta
 pub answer_last-requires : goal.answer_last-requires
 unfolding decode
 answer_last-requires c = let n = c.count_of-count.ensures in
-    (omega (arith, (valid (goal.at.answer_last-requires c).Start).some, n), omega (arith, (valid (goal.at.answer_last-requires c).Start).room, n, c.mark_lamps.auto.mem), omega arith)
+    let v = valid (goal.at.answer_last-requires c).Start in
+    (omega (arith, v.some, n), omega (arith, v.room, n, c.if-order-eq2.auto.mem), omega arith)
 
 pub returns : goal.returns
 unfolding decode
 returns c = let a = c.args in
+    let n = c.count_of-count in
     let e = c.answer_last.ensures in
-    told (init-marks a.mem.now (search rules) (valid (goal.at.returns c).Start) a.order.number c.requires.1 a.room.now c.count_of-count.ensures c.mark_lamps.ensures e.answer e.room)
+    let v = valid (goal.at.returns c).Start in
+    told (init-marks a.mem.now (search rules) v a.order.number c.requires.1 a.room.now n.ensures {mem' = c.if-order-eq2.mem} (elim c.if-order-eq2.branch [
+      | then-order-eq2 w ↦ rw w.if-order-eq2.true (w.mem-is ∙ w.mark_lamps.ensures)
+      | else-order-eq2 w ↦ rw (ne_eqb _ _ w.if-order-eq2.false) (w.mem-is ∙ sym (sweep-same 0 n.result a.mem.now (search rules) (omega (arith, v.room, n.ensures))))
+    ]) e.answer e.room)
