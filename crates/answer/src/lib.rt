@@ -147,7 +147,7 @@ pub fn dissect_answer(s: &[u8]) -> Result<Answered, Refusal>
 {
     let r = telegram::read_telegram(s);
     let Ok(t) = r else {
-        return Err(r.unwrap_err());
+        return Err(telegram::refusal_of(r));
     };
     name_answer(s, t)
 }

@@ -3,7 +3,7 @@
 
 ghost use Rattle.std.specs.Prelude.{◌≡◌, ◌&&◌, ◌||◌, ◌+◌, ◌*◌, ◌/◌, ◌%◌};
 
-// Whether both hold. Both are always evaluated, without a branch, as by `&`. The crates here write `&&` and `&`.
+// Whether both hold. Both are always evaluated, without a branch, as by `&`.
 pub fn and(a: bool, b: bool) -> bool
     ensures { result ≡ (a && b) }
 {

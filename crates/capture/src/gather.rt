@@ -48,15 +48,16 @@ fn next_whole(s: &[u8], carried: Reading, at: usize) -> Next
     requires { (carried.count ≤ length s.now) × (length s.now ≤ 12) × (at + (length s.now - carried.count) < 18446744073709551616) }
     ensures { next_as result ≡ next_judged (reading s.now) s.now (length s.now) (state_of carried) at }
 {
+    let r = telegram::read_telegram(s);
+    let Ok(t) = r else {
+        return stop(telegram::refusal_of(r), carried.position, at);
+    };
     let k = s.len();
-    match telegram::read_telegram(s) {
-        Ok(t) => Next {
-            answer: Ok(Reply::Telegram(t)),
-            bytes: placed([0; 12], 0, s),
-            at: at + (k - carried.count),
-            reading: resting(Phase::Open, carried.position.wrapping_add(k as u64)),
-        },
-        Err(e) => stop(e, carried.position, at),
+    Next {
+        answer: Ok(Reply::Telegram(t)),
+        bytes: placed([0; 12], 0, s),
+        at: at + (k - carried.count),
+        reading: resting(Phase::Open, carried.position.wrapping_add(k as u64)),
     }
 }
 

@@ -1,9 +1,8 @@
 // Cases on a reader of captures, whose state is the lent part of the chain memory.
 use crate::line::long_at;
 use crate::memory::Memory;
-use crate::printing::{Out, print_result};
+use crate::printing::{print_line, print_result};
 use crate::room::Room;
-use std::fmt::Write;
 use text::{byte_at, from};
 
 // Runs a case on a reader.
@@ -11,7 +10,7 @@ pub(crate) fn run_reader(operation: u8, s: &[u8], memory: &mut Memory) {
     match operation {
         b'q' => {
             let position = osp::osp_reader_position(memory.lent());
-            let _ = write!(Out, "  {position:016X}\n");
+            print_line(b"  ", &position.to_be_bytes());
             return;
         }
         b'o' => {
@@ -30,5 +29,5 @@ fn next(s: &[u8], reader: &mut [u8]) {
     let mut at = long_at(s, 1) as usize;
     let result = osp::osp_reader_next(reader, from(s, 5), &mut at, room.lent());
     room.print(result);
-    let _ = write!(Out, "  at {:08X}\n", at % 4294967296);
+    print_line(b"  at ", &((at % 4294967296) as u32).to_be_bytes());
 }

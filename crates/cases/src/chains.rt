@@ -1,16 +1,15 @@
 // Cases on a chain: each calls a function on the lent part of the chain memory.
 use crate::line::long_at;
 use crate::memory::Memory;
-use crate::printing::{Out, print_result};
+use crate::printing::{print_line, print_result};
 use crate::room::Room;
-use std::fmt::Write;
 use text::{byte_at, from};
 
 // Runs a case on a chain.
 pub(crate) fn run_chain(operation: u8, s: &[u8], memory: &mut Memory) {
     match operation {
         b'k' => {
-            let _ = write!(Out, "  {:08X}\n", osp::osp_record_len(long_at(s, 0)));
+            print_line(b"  ", &osp::osp_record_len(long_at(s, 0)).to_be_bytes());
             return;
         }
         b'l' => {

@@ -1,7 +1,6 @@
 // The chain memory, of which the cases lend a part.
 use crate::FILL;
-use crate::printing::Out;
-use std::fmt::Write;
+use crate::printing::print_line;
 
 // The memory, and how many of its bytes are lent (fixed memory: no heap in the tool).
 #[derive(Drop)]
@@ -40,6 +39,6 @@ impl<'a> Memory<'a> {
     // Prints the checksum of the bytes that are lent.
     pub(crate) fn print_record(&self) {
         let checksum = osp::osp_checksum(text::first(self.bytes, self.size));
-        let _ = write!(Out, "  record {checksum:02X}\n");
+        print_line(b"  record ", &[checksum]);
     }
 }

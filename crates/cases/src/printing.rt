@@ -2,10 +2,11 @@
 use crate::FILL;
 use std::fmt;
 use std::fmt::Write;
+use text::digit;
 
 // Standard output, to write to.
 #[derive(Clone, Copy)]
-pub(crate) struct Out;
+struct Out;
 
 impl fmt::Write for Out {
     fn write_str(&mut self, s: &str) -> fmt::Result {
@@ -39,9 +40,18 @@ pub(crate) fn print_result(returned: u32, out: &[u8]) {
     }
 }
 
-// Bytes in hex, with a space before each.
+// Bytes in hex, with a space before each. (`write!` would call the system for each of its pieces.)
 fn print_bytes(s: &[u8]) {
     for b in s {
-        let _ = write!(Out, " {:02X}", *b);
+        print(&[b' ', digit(*b / 16), digit(*b)]);
     }
+}
+
+// A line of words, and bytes in hex behind them.
+pub(crate) fn print_line(words: &[u8], bytes: &[u8]) {
+    print(words);
+    for b in bytes {
+        print(&[digit(*b / 16), digit(*b)]);
+    }
+    print(b"\n");
 }

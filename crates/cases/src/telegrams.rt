@@ -1,14 +1,13 @@
 // Cases on single telegrams: each calls a function with a room of its own.
 use crate::line::long_at;
-use crate::printing::Out;
+use crate::printing::print_line;
 use crate::room::Room;
-use std::fmt::Write;
 use text::{byte_at, from};
 
 // Runs a case: the first byte is the length of the room; a checksum has none.
 pub(crate) fn run_case(operation: u8, s: &[u8]) {
     if operation == b's' {
-        let _ = write!(Out, "  {:02X}\n", osp::osp_checksum(s));
+        print_line(b"  ", &[osp::osp_checksum(s)]);
         return;
     }
     let mut room = Room::of(byte_at(s, 0));

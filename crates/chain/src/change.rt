@@ -49,7 +49,6 @@ fn thresholds_at(s: &[u8], i: usize) -> Thresholds
 
 // Does what a command says to the lamp at a place, an acknowledged one what its plain form says. Each arm loads and stores by itself: the
 // compiler then stores only what changes.
-#[inline(always)]
 fn alter(mem: &mut [u8], p: Place, d: Defaults, order: Order)
     requires { slot_at p.0 + slot_size ≤ length mem.old }
     ensures { mem.new ≡ with_lamp mem.old p.0 (changed d (command_in order.entry.number order.entry.payload.now) (lamp_at mem.old p.0)) }
@@ -89,7 +88,6 @@ fn alter(mem: &mut [u8], p: Place, d: Defaults, order: Order)
 }
 
 // Does what a command says to the lamp at a place, if the lamp obeys it.
-#[inline(always)]
 pub(crate) fn act(mem: &mut [u8], p: Place, d: Defaults, order: Order)
     requires { slot_at p.0 + slot_size ≤ length mem.old }
     ensures { mem.new ≡ with_lamp mem.old p.0 (acted d (command_in order.entry.number order.entry.payload.now) (lamp_at mem.old p.0)) }
@@ -118,7 +116,6 @@ fn is_reached(reach: Reach, l: Lamp) -> bool
 }
 
 // Does what a command says to the lamp at a place, if it reaches the lamp.
-#[inline(always)]
 fn act_reached(mem: &mut [u8], p: Place, d: Defaults, order: Order, reach: Reach)
     requires { slot_at p.0 + slot_size ≤ length mem.old }
     ensures { mem.new ≡ with_lamp mem.old p.0 (acted_in reach d (command_in order.entry.number order.entry.payload.now) (lamp_at mem.old p.0)) }
@@ -129,7 +126,6 @@ fn act_reached(mem: &mut [u8], p: Place, d: Defaults, order: Order, reach: Reach
 }
 
 // Does what a command says to each lamp that it reaches.
-#[inline(always)]
 pub(crate) fn act_lamps(mem: &mut [u8], count: usize, d: Defaults, order: Order, reach: Reach)
     requires { slot_at count ≤ length mem.old }
     ensures { mem.new ≡ sweep (λ (p : ℕ) (l : LampType). acted_in reach d (command_in order.entry.number order.entry.payload.now) l) 0 count mem.old }

@@ -136,7 +136,7 @@ pub(crate) fn deliver_valid(
 {
     let read = telegram::read_telegram(telegram);
     let Ok(t) = read else {
-        return refuse(mem, read.unwrap_err());
+        return refuse(mem, telegram::refusal_of(read));
     };
     match command::heading_of(t) {
         Ok(cast) => {

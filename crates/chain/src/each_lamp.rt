@@ -34,12 +34,14 @@ pub(crate) fn any_unaddressed(mem: &[u8], count: usize) -> bool
 {
     let mut any = false;
     for i in 0..count {
-        any |= load_address(mem, Place(i)).0 == 0x3FF;
+        any = bits::or(any, load_address(mem, Place(i)).0 == 0x3FF);
     }
     any
 }
 
-// Does something at each place, one after the other. What it does to the lamp at each place, the sweep does to all.
+// Does something at each place, one after the other. What it does to the lamp at each place, the sweep does to all. (Inlined: what the closure
+// has is then read once, and not again at each place.)
+#[inline(always)]
 pub(crate) fn sweep<F: Fn(&mut [u8], Place)>(mem: &mut [u8], count: usize, each: F)
     requires room { slot_at count ≤ length mem.old }
     requires calls { (m : _) (p : _) → p.0 < count → slot_at p.0 + slot_size ≤ length m.now → F.pre each m p }

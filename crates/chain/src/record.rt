@@ -128,7 +128,7 @@ fn lamps_right(mem: &[u8], count: usize) -> bool
 {
     let mut right = true;
     for i in 0..count {
-        right &= lamp_right(mem, Place(i));
+        right = bits::and(right, lamp_right(mem, Place(i)));
     }
     right
 }

@@ -127,7 +127,7 @@ pub fn dissect(s: &[u8]) -> Result<Dissected, Refusal>
 {
     let r = telegram::read_telegram(s);
     let Ok(t) = r else {
-        return Err(r.unwrap_err());
+        return Err(telegram::refusal_of(r));
     };
     name_command(s, t)
 }
@@ -162,5 +162,5 @@ pub fn build_pwm(r: Pwm, g: Pwm, b: Pwm, cast: Cast, out: &mut [u8]) -> Result<u
 {
     let parts = pwm_parts(0x4F, r, g, b);
     let address = ranged_address(&parts, cast)?;
-    telegram::build_telegram(address, parts.number, parts.payload(), out)
+    telegram::build_telegram(address, 0x4F, parts.payload(), out)
 }

@@ -33,9 +33,9 @@ impl<'r, 'a, R: Print> Listing<'r, 'a, R> {
         }
     }
 
-    // Lists a telegram.
+    // Lists a telegram, also on a page that could not be written, of which room is left for one.
     fn list_telegram(&mut self, bytes: &[u8]) -> Result<(), Stop> {
-        self.output.make_room()?;
+        let written = self.output.make_room();
         let piece = Piece {
             position: self.reading.position,
             bytes,
@@ -43,16 +43,16 @@ impl<'r, 'a, R: Print> Listing<'r, 'a, R> {
         let v = verdict::judge(bytes);
         self.tally.count(v);
         listing::put_telegram(&mut self.output.page, self.form, piece, v);
-        Ok(())
+        written
     }
 
     // Lists the refused telegram by its first bytes, twelve at most: those that the reading carried, and those behind them. With `quiet`
     // nothing is listed, since the last line tells the refusal.
     fn list_refused(&mut self, e: Refusal, rest: &[u8]) -> Result<(), Stop> {
-        self.output.make_room()?;
+        let written = self.output.make_room();
         self.refusal = Some(e);
         if self.quiet {
-            return Ok(());
+            return written;
         }
         let mut room = [0u8; 12];
         let mut there = Page::over(&mut room);
@@ -64,7 +64,7 @@ impl<'r, 'a, R: Print> Listing<'r, 'a, R> {
             bytes: there.written(),
         };
         listing::put_refused(&mut self.output.page, self.form, piece, e);
-        Ok(())
+        written
     }
 
     // Lists the next telegram of a chunk. Answers the reader behind it.

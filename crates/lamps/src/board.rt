@@ -60,41 +60,44 @@ pub(crate) fn put_start(page: &mut Page, lamps: u16) {
     );
 }
 
-// Appends a lamp: where it stands, what is told of it, a ring, its disc, its place and its address.
+// Appends a lamp: where it stands, what is told of it, a ring, its disc, its place and its address. (In the pieces that stand here: of a page
+// that could not be written and is full, each is left out whole. Numbers in hex are a piece each, which by `write!` they are not.)
 pub(crate) fn put_lamp(page: &mut Page, place: u16, lamps: u16, l: Lamp) {
     let _ = write!(
         page,
-        "<g transform=\"translate({} {})\" text-anchor=\"middle\">",
+        "<g transform=\"translate({} {})\" text-anchor=\"middle\"><title>place {place}, address ",
         left_of(place, lamps),
         top_of(place, lamps)
     );
-    put_title(page, place, l);
+    put_title(page, l);
     put_ring(page, status_of(l));
     put_disc(page, l);
-    let _ = writeln!(
-        page,
-        "<text x=\"30\" y=\"59\" font-weight=\"bold\">{place}</text><text x=\"30\" y=\"72\">{:03X}</text></g>",
-        l.address.0
-    );
-}
-
-// Appends what is told to whoever points at a lamp: place, address, state, COM, flags, colours.
-fn put_title(page: &mut Page, place: u16, l: Lamp) {
-    let status = status_of(l);
     let _ = write!(
         page,
-        "<title>place {place}, address {:03X}: {}, {}, ",
-        l.address.0,
+        "<text x=\"30\" y=\"59\" font-weight=\"bold\">{place}</text><text x=\"30\" y=\"72\">"
+    );
+    page.put_address(l.address.0);
+    page.put(b"</text></g>\n");
+}
+
+// Appends what is told, behind its place, to whoever points at a lamp: address, state, COM, flags, colours.
+fn put_title(page: &mut Page, l: Lamp) {
+    let status = status_of(l);
+    page.put_address(l.address.0);
+    let _ = write!(
+        page,
+        ": {}, {}, ",
         state_name(status),
         direction_name(status)
     );
     put_flags(page, status, b"no flags");
+    page.put(b"; ");
     let red = pwm_of(l.pwm.red);
     let green = pwm_of(l.pwm.green);
     let blue = pwm_of(l.pwm.blue);
     let _ = write!(
         page,
-        "; red {} {}, green {} {}, blue {} {}</title>",
+        "red {} {}, green {} {}, blue {} {}</title>",
         mode_name(red.day),
         red.duty,
         mode_name(green.day),
@@ -115,21 +118,18 @@ fn put_ring(page: &mut Page, status: u8) {
 
 // Appends the lamp's disc, in its colour; dimmed, with a dashed rim, where the lamp is not ACTIVE.
 fn put_disc(page: &mut Page, l: Lamp) {
-    let _ = write!(
-        page,
-        "<circle cx=\"30\" cy=\"24\" r=\"17\" fill=\"#{:02X}{:02X}{:02X}\" {}/>",
-        shade_of(l.pwm.red),
-        shade_of(l.pwm.green),
-        shade_of(l.pwm.blue),
-        rim_of(l.state)
-    );
+    page.put(b"<circle cx=\"30\" cy=\"24\" r=\"17\" fill=\"#");
+    page.put_hex(shade_of(l.pwm.red));
+    page.put_hex(shade_of(l.pwm.green));
+    page.put_hex(shade_of(l.pwm.blue));
+    page.put(rim_of(l.state));
 }
 
-// How full a disc is and what its rim is like.
-fn rim_of(state: State) -> &'static str {
+// How full a disc is and what its rim is like, behind its colour.
+fn rim_of(state: State) -> &'static [u8] {
     match state {
-        State::Active => "stroke=\"#707880\"",
-        _ => "fill-opacity=\"0.3\" stroke=\"#A0A8B0\" stroke-dasharray=\"4 3\"",
+        State::Active => b"\" stroke=\"#707880\"/>",
+        _ => b"\" fill-opacity=\"0.3\" stroke=\"#A0A8B0\" stroke-dasharray=\"4 3\"/>",
     }
 }
 

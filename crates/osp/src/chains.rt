@@ -6,7 +6,7 @@ ghost use Rattle.reader.specs.Interface.{returned};
 ghost use Rattle.osp.specs.Interface.{osp_record_len, defaults_from, returned_bare, osp_lamp};
 
 use crate::given::give_lamp;
-use crate::returned::count_returned;
+use crate::returned::{delivered_returned, refusal_returned};
 use rules::{Defaults, Place, Thresholds};
 
 // The length of the record of a chain.
@@ -27,7 +27,7 @@ pub fn osp_make(mem: &mut [u8], count: u32, setup: u8, t0: u8, t1: u8, t2: u8) -
         high: t2,
     };
     let d = Defaults { setup, thresholds };
-    count_returned(chain::make(mem, count as usize, d))
+    delivered_returned(chain::make(mem, count as usize, d))
 }
 
 // Delivers a telegram: 9, 11, 1 to 8, 12.
@@ -36,7 +36,7 @@ pub fn osp_deliver(mem: &mut [u8], s: &[u8], out: &mut [u8]) -> u32
     ensures mem_after { mem.new ≡ (delivered mem.old s.now (length out.old)).memory }
     ensures out_after { out.new ≡ leaves (delivered mem.old s.now (length out.old)).outcome out.old }
 {
-    count_returned(chain::deliver(mem, s, out))
+    delivered_returned(chain::deliver(mem, s, out))
 }
 
 // A sensor report: 11, 13, 10.
@@ -44,7 +44,7 @@ pub fn osp_sense(mem: &mut [u8], place: u32, temperature: u8, faults: u32) -> u3
     ensures value { result ≡ returned_bare (sensed_in mem.old place temperature faults) }
     ensures mem_after { mem.new ≡ held mem.old (sensed_in mem.old place temperature faults) }
 {
-    count_returned(chain::sense(mem, Place(place as usize), temperature, faults))
+    delivered_returned(chain::sense(mem, Place(place as usize), temperature, faults))
 }
 
 // Reads a lamp out: 11, 13, then 9.
@@ -55,6 +55,6 @@ pub fn osp_lamp(mem: &[u8], place: u32, out: &mut [u8]) -> u32
 {
     match chain::read_lamp(mem, Place(place as usize)) {
         Ok(l) => give_lamp(l, out),
-        Err(e) => telegram::refusal_value(e),
+        Err(e) => refusal_returned(e),
     }
 }

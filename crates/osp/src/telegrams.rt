@@ -10,7 +10,7 @@ ghost use Rattle.osp.specs.Interface.{osp_read, osp_dissect, osp_dissect_answer,
 
 use crate::casts::cast_from;
 use crate::given::{give_answer, give_command, give_telegram};
-use crate::returned::count_returned;
+use crate::returned::{built_returned, refusal_returned};
 use command::{Command, Pwm};
 use telegram::Address;
 
@@ -27,10 +27,11 @@ pub fn osp_read(s: &[u8], out: &mut [u8]) -> u32
     ensures value { result ≡ returned (osp_read s.now (length out.old)) }
     ensures out_after { out.new ≡ leaves (osp_read s.now (length out.old)) out.old }
 {
-    match telegram::read_telegram(s) {
-        Ok(t) => give_telegram(s, t, out),
-        Err(e) => telegram::refusal_value(e),
-    }
+    let r = telegram::read_telegram(s);
+    let Ok(t) = r else {
+        return refusal_returned(telegram::refusal_of(r));
+    };
+    give_telegram(s, t, out)
 }
 
 // The command dissector: 1 to 8, then 9.
@@ -41,7 +42,7 @@ pub fn osp_dissect(s: &[u8], out: &mut [u8]) -> u32
 {
     match command::dissect(s) {
         Ok(d) => give_command(d, out),
-        Err(e) => telegram::refusal_value(e),
+        Err(e) => refusal_returned(e),
     }
 }
 
@@ -53,7 +54,7 @@ pub fn osp_dissect_answer(s: &[u8], out: &mut [u8]) -> u32
 {
     match answer::dissect_answer(s) {
         Ok(a) => give_answer(a, out),
-        Err(e) => telegram::refusal_value(e),
+        Err(e) => refusal_returned(e),
     }
 }
 
@@ -66,7 +67,7 @@ pub fn osp_build(address: u32, command: u32, payload: &[u8], out: &mut [u8]) -> 
     if 1023 < address || 127 < command {
         return 10;
     }
-    count_returned(telegram::build_telegram(Address(address as u16), command as u8, payload, out))
+    built_returned(telegram::build_telegram(Address(address as u16), command as u8, payload, out))
 }
 
 // Builds a command for a cast in two numbers: 10, 7, 9.
@@ -78,7 +79,7 @@ fn build_directed(c: Command, kind: u32, value: u32, out: &mut [u8]) -> u32
     let Some(cast) = cast_from(kind, value) else {
         return 10;
     };
-    count_returned(command::build_command(c, cast, out))
+    built_returned(command::build_command(c, cast, out))
 }
 
 // The command builder, of a command's number, its cast in two numbers and the bytes of its payload: 6, 8, then 10, 7, 9.
@@ -92,7 +93,7 @@ pub fn osp_build_command(command: u32, cast: u32, value: u32, payload: &[u8], ou
     }
     match command::compose(command as u8, payload) {
         Ok(c) => build_directed(c, cast, value, out),
-        Err(e) => telegram::refusal_value(e),
+        Err(e) => refusal_returned(e),
     }
 }
 
@@ -130,5 +131,5 @@ pub fn osp_build_pwm(
     let Some(cast) = cast_from(cast, value) else {
         return 10;
     };
-    count_returned(command::build_pwm(r, g, b, cast, out))
+    built_returned(command::build_pwm(r, g, b, cast, out))
 }

@@ -5,14 +5,14 @@
 use capture::{Phase, Reading};
 use files::{Chunks, Stop};
 use lines::Holds;
-use script::Run;
+use script::Playing;
 use std::io::Read;
 use telegram::Refusal;
 
-// A capture that is being done: the run, and what the reading remembers.
+// A capture that is being done: where it is done, and what the reading remembers.
 #[derive(Drop)]
 struct Walk<'b, 'r, 'a, R> {
-    run: &'b mut Run<'r, 'a, R>,
+    playing: &'b mut Playing<'r, 'a, R>,
     reading: Reading,
 }
 
@@ -44,14 +44,20 @@ impl<'b, 'r, 'a, R: Print> Walk<'b, 'r, 'a, R> {
         Ok(refusal_of(self.reading))
     }
 
-    // Tells where the reading stopped by a refusal, if it did.
+    // Tells where the reading stopped by a refusal, if it did, also on a page that could not be written.
     fn tell_refusal(&mut self) -> Result<(), Stop> {
-        if let Some(e) = refusal_of(self.reading) {
-            self.run.output.make_room()?;
-            let style = self.run.style;
-            lines::put_stopped(&mut self.run.output.page, style, self.reading.position, e);
-        }
-        Ok(())
+        let Some(e) = refusal_of(self.reading) else {
+            return Ok(());
+        };
+        let written = self.playing.output.make_room();
+        let style = self.playing.style;
+        lines::put_stopped(
+            &mut self.playing.output.page,
+            style,
+            self.reading.position,
+            e,
+        );
+        written
     }
 }
 
@@ -61,8 +67,11 @@ impl<'b, 'r, 'a, R: Print> Chunks for Walk<'b, 'r, 'a, R> {
         let before = self.reading.position;
         self.reading = read_chunk(text::from(s, have), self.reading);
         let whole = self.reading.position.wrapping_sub(before) as usize;
-        self.run.do_lines(text::first(s, whole), Holds::Telegrams)?;
+        let done = self
+            .playing
+            .do_lines(text::first(s, whole), Holds::Telegrams);
         self.tell_refusal()?;
+        done?;
         if !matches!(self.reading.phase, Phase::Open) {
             return Ok(None);
         }
@@ -76,17 +85,17 @@ impl<'b, 'r, 'a, R: Print> Chunks for Walk<'b, 'r, 'a, R> {
     }
 
     fn flush(&mut self) -> Result<(), Stop> {
-        self.run.output.flush()
+        self.playing.output.flush()
     }
 }
 
 // Does a capture, from an input that is open. Answers the refusal of the capture itself, if it was refused.
 pub fn do_capture<R: Print, I: Read>(
-    run: &mut Run<R>,
+    playing: &mut Playing<R>,
     input: &mut I,
 ) -> Result<Option<Refusal>, Stop> {
     let mut walk = Walk {
-        run,
+        playing,
         reading: capture::resting(Phase::Open, 0),
     };
     walk.read(input)

@@ -9,17 +9,34 @@ mod found;
 mod kept;
 mod passing;
 
-ghost use Rattle.std.specs.Prelude.{◌≡◌, length};
-ghost use Rattle.telegram.specs.Numbers.{leaves};
-ghost use Rattle.reader.specs.Interface.{returned, reader_next, reader_end, reader_position};
+ghost use Rattle.std.specs.Prelude.{◌≡◌, ◌≤◌, length};
+ghost use Rattle.telegram.specs.Numbers.{leaves, number_of, reason_of, value_of};
+ghost use Rattle.capture.specs.State.{state_of};
+ghost use Rattle.reader.specs.Layout.{reader_size};
+ghost use Rattle.reader.specs.Interface.{returned, kept_by, reader_next, reader_end, reader_position};
 
 use capture::Reply;
 use found::{read_likely_open, read_state};
 use kept::{Kept, keep, keep_carried};
 use passing::{pass, read_whole};
+use telegram::Refusal;
 
-// The next telegram of a chunk, whatever is carried. With 11 what is kept is what memory holds: no byte changes. The bytes of a telegram
-// are copied for speed: lent from `n` itself, at a length that varies, they put all of `n` in memory, and chunks of one byte took 23 % longer.
+// Keeps what a refusal leaves: the reader's own stops it. Of 11 nothing is written: what memory holds may lie where nothing can be written.
+fn refuse_kept(e: Refusal, left: Kept, reader: &mut [u8]) -> u32
+    requires { reader_size ≤ length reader.old }
+    ensures value { result ≡ value_of (reason_of e) }
+    ensures reader_after { reader.new ≡ kept_by (number_of e) (state_of left.reading) reader.old }
+{
+    let value = telegram::refusal_value(e);
+    if telegram::refusal_number(e) == 11 {
+        return value;
+    }
+    keep(left, reader);
+    value
+}
+
+// The next telegram of a chunk, whatever is carried. The bytes of a telegram are copied for speed: lent from `n` itself, at a length that
+// varies, they put all of `n` in memory, and chunks of one byte took 23 % longer.
 fn next_carried(reader: &mut [u8], chunk: &[u8], at: &mut usize, out: &mut [u8]) -> u32
     ensures value { result ≡ returned (reader_next reader.old chunk.now at.old (length out.old)).outcome }
     ensures reader_after { reader.new ≡ (reader_next reader.old chunk.now at.old (length out.old)).memory }
@@ -52,10 +69,7 @@ fn next_carried(reader: &mut [u8], chunk: &[u8], at: &mut usize, out: &mut [u8])
             *at = n.at;
             0
         }
-        Err(e) => {
-            keep(Kept { reading: n.reading }, reader);
-            telegram::refusal_value(e)
-        }
+        Err(e) => refuse_kept(e, Kept { reading: n.reading }, reader),
     }
 }
 
@@ -72,7 +86,7 @@ pub fn next_telegram(reader: &mut [u8], chunk: &[u8], at: &mut usize, out: &mut 
     }
 }
 
-// The end of the run: 11, then the reader's own refusals. With 11 what is kept is what memory holds, here too.
+// The end of the run: 11, then the reader's own refusals.
 pub fn end_capture(reader: &mut [u8]) -> u32
     ensures value { result ≡ returned (reader_end reader.old).outcome }
     ensures reader_after { reader.new ≡ (reader_end reader.old).memory }
@@ -81,10 +95,13 @@ pub fn end_capture(reader: &mut [u8]) -> u32
         return 11;
     };
     let c = capture::end_run(carried);
-    keep(Kept { reading: c.reading }, reader);
+    let left = Kept { reading: c.reading };
     match c.answer {
-        Ok(_) => 0,
-        Err(e) => telegram::refusal_value(e),
+        Ok(_) => {
+            keep(left, reader);
+            0
+        }
+        Err(e) => refuse_kept(e, left, reader),
     }
 }
 

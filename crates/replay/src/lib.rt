@@ -8,42 +8,47 @@ use lamps::Look;
 use lines::Style;
 use options::{ChainOptions, Options, chain_options};
 use rules::Place;
-use script::Run;
+use script::Playing;
 use std::rt::Files;
 use telegram::Refusal;
 
-// Prints the chain after a script, behind an empty line where lines of the script stand above it.
-fn print_chain<R: Print>(run: &mut Run<R>, look: Look, count: u16) -> Result<(), Stop> {
-    if run.style == Style::Text {
-        run.output.page.put_byte(b'\n');
+// Prints the chain after a script, behind an empty line where lines of the script stand above it. Where the page cannot be
+// written, that is tried again before each lamp that follows; the run has failed in any case.
+fn print_chain<R: Print>(playing: &mut Playing<R>, look: Look, count: u16) -> Result<(), Stop> {
+    if playing.style == Style::Text {
+        playing.output.page.put_byte(b'\n');
     }
-    lamps::put_start(&mut run.output.page, look, count);
+    lamps::put_start(&mut playing.output.page, look, count);
+    let mut failed = Ok(());
     for place in 0..count {
-        run.output.make_room()?;
-        if let Ok(l) = chain::read_lamp(run.memory, Place(place as usize)) {
-            lamps::put_lamp(&mut run.output.page, look, place, count, l);
+        if let Err(stop) = playing.output.make_room() {
+            failed = Err(stop);
+        }
+        if let Ok(l) = chain::read_lamp(playing.memory, Place(place as usize)) {
+            lamps::put_lamp(&mut playing.output.page, look, place, count, l);
         }
     }
-    lamps::put_end(&mut run.output.page, look, count);
-    run.output.flush()
+    lamps::put_end(&mut playing.output.page, look, count);
+    playing.output.flush()?;
+    failed
 }
 
 // Opens the script, or the capture, does it, and prints the chain after it. Answers the refusal of the capture itself, if it was refused.
 // (The number of lamps is a u16, since no chain has more than 1,007.)
 fn play<R: Files + Input + Print>(
     rt: &R,
-    run: &mut Run<R>,
+    playing: &mut Playing<R>,
     o: &ChainOptions,
     look: Look,
 ) -> Result<Option<Refusal>, Stop> {
     let mut input = files::open_file(rt, o.options.file)?;
     let refusal = if o.raw {
-        raw::do_capture(run, &mut input)?
+        raw::do_capture(playing, &mut input)?
     } else {
-        files::read_chunks(run, &mut input)?;
+        files::read_chunks(playing, &mut input)?;
         None
     };
-    print_chain(run, look, u16::try_from(o.lamps).unwrap_or(0))?;
+    print_chain(playing, look, u16::try_from(o.lamps).unwrap_or(0))?;
     Ok(refusal)
 }
 
@@ -67,14 +72,14 @@ fn say_silent(voice: Voice, either: bool, position: u64, refusal: Option<Refusal
 }
 
 // Says what is not printed of a run that came to its end. Answers the status.
-fn conclude<R>(voice: Voice, run: &Run<R>, raw: bool, refusal: Option<Refusal>) -> Status {
-    if run.refused && voice.subcommand == Subcommand::Board {
+fn conclude<R>(voice: Voice, playing: &Playing<R>, raw: bool, refusal: Option<Refusal>) -> Status {
+    if playing.run.refused && voice.subcommand == Subcommand::Board {
         say_refused(voice, raw);
     }
-    if run.style == Style::Silent {
-        say_silent(voice, run.either, run.done, refusal);
+    if playing.style == Style::Silent {
+        say_silent(voice, playing.run.either, playing.run.done, refusal);
     }
-    Status::of(run.refused || refusal.is_some())
+    Status::of(playing.run.refused || refusal.is_some())
 }
 
 // How many bytes of memory are enough for the largest chain.
@@ -93,9 +98,9 @@ fn show<R: Files + Input + Print>(
     if let Err(e) = chain::make(&mut memory, o.lamps as usize, o.defaults) {
         return voice.say(Complaint::Refused(e));
     }
-    let mut run = Run::over(Output::over(rt, &mut room), &mut memory, style);
-    match play(rt, &mut run, o, look) {
-        Ok(refusal) => conclude(voice, &run, o.raw, refusal),
+    let mut playing = Playing::over(Output::over(rt, &mut room), &mut memory, style);
+    match play(rt, &mut playing, o, look) {
+        Ok(refusal) => conclude(voice, &playing, o.raw, refusal),
         Err(stop) => stop.say(voice, o.options.file),
     }
 }

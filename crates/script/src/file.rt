@@ -1,9 +1,9 @@
 // A script read from its file: chunk by chunk, with what is not a whole line yet carried.
-use crate::Run;
+use crate::Playing;
 use files::{Chunks, Stop};
 use lines::{Holds, LONGEST_LINE};
 
-impl<'r, 'a, R: Print> Chunks for Run<'r, 'a, R> {
+impl<'r, 'a, R: Print> Chunks for Playing<'r, 'a, R> {
     // A line that is not whole is malformed as soon as more of it is there than a line may have.
     fn take_chunk(&mut self, s: &[u8], _have: usize) -> Result<Option<usize>, Stop> {
         let next = self.do_lines(s, Holds::Lines)?;

@@ -8,16 +8,22 @@ use files::{Output, Stop};
 use lines::{Given, Holds, Line, Style, Telegram, line_at};
 use rules::Place;
 
-// A script, or a capture, that is done on a chain: what is printed of its lines, and the chain's memory; how many lines of the script or
-// bytes of the capture were done, whether the chain refused anything, whether it did a telegram of the capture that may be an answer.
-#[derive(Drop)]
-pub struct Run<'r, 'a, R> {
-    pub output: Output<'r, 'a, R>,
-    pub memory: &'a mut [u8],
-    pub style: Style,
+// How far a script, or a capture, is done: how many of its lines or bytes, whether the chain refused anything, whether it did a telegram of
+// the capture that may be an answer.
+#[derive(Clone, Copy, Default)]
+pub struct Run {
     pub done: u64,
     pub refused: bool,
     pub either: bool,
+}
+
+// A script, or a capture, that is done on a chain: what is printed of its lines, the chain's memory, how far it is done.
+#[derive(Drop)]
+pub struct Playing<'r, 'a, R> {
+    pub output: Output<'r, 'a, R>,
+    pub memory: &'a mut [u8],
+    pub style: Style,
+    pub run: Run,
 }
 
 // Delivers a telegram. Of more than 16 bytes the first 16 are delivered: any of more than 12 is refused for its first three bytes and
@@ -43,30 +49,38 @@ fn act(memory: &mut [u8], line: &Line) -> Given {
     }
 }
 
-impl<'r, 'a, R: Print> Run<'r, 'a, R> {
+impl<'r, 'a, R: Print> Playing<'r, 'a, R> {
     // A run at its start.
-    pub fn over(output: Output<'r, 'a, R>, memory: &'a mut [u8], style: Style) -> Run<'r, 'a, R> {
-        Run {
+    pub fn over(
+        output: Output<'r, 'a, R>,
+        memory: &'a mut [u8],
+        style: Style,
+    ) -> Playing<'r, 'a, R> {
+        Playing {
             output,
             memory,
             style,
-            done: 0,
-            refused: false,
-            either: false,
+            run: Run::default(),
         }
     }
 
     // The line behind those that were done is malformed.
     fn malformed(&self) -> Stop {
-        Stop::Malformed(self.done.wrapping_add(1))
+        Stop::Malformed(self.run.done.wrapping_add(1))
     }
 
     // Does a line that says something.
     fn do_said(&mut self, line: &Line) {
         let given = act(self.memory, line);
-        lines::put_line(&mut self.output.page, self.style, self.done, line, &given);
-        self.refused = self.refused || given.is_err();
-        self.either = self.either || lines::is_either(line, &given);
+        lines::put_line(
+            &mut self.output.page,
+            self.style,
+            self.run.done,
+            line,
+            &given,
+        );
+        self.run.refused = self.run.refused || given.is_err();
+        self.run.either = self.run.either || lines::is_either(line, &given);
     }
 
     // Does a line.
@@ -77,7 +91,7 @@ impl<'r, 'a, R: Print> Run<'r, 'a, R> {
             Line::Blank => {}
             _ => self.do_said(line),
         }
-        self.done = self.done.wrapping_add(line.step());
+        self.run.done = self.run.done.wrapping_add(line.step());
         Ok(())
     }
 

@@ -10,9 +10,11 @@ use native.Mathlib.Omega.{arith}
 use borrow.Author.Tests.{lt-ltb, le-ltb, eq-eqb, ne_eqb, ltb-false, eqb-true, eqb-false, not-false}
 use lib.Dec.{eqb}
 use lib.ListN.{length}
-use Rattle.telegram.specs.Numbers.{Reason, refused_for, refused, done, wrong_checksum}
-use Rattle.telegram.specs.Telegram.{preamble_in, index_in, size_of, telegram_in, framing, reading, checking, computed_in, received_in, checksum_right, Bytes}
+use Rattle.std.specs.Prelude.{Result, Err}
+use Rattle.telegram.specs.Numbers.{Reason, refused_for, refused, done, wrong_checksum, reason_of, outcome_of}
+use Rattle.telegram.specs.Telegram.{preamble_in, index_in, size_of, telegram_in, framing, reading, refusal_in, checking, computed_in, received_in, checksum_right, Bytes}
 use Rattle.telegram.specs.declared.Telegram.{Telegram}
+use Rattle.telegram.specs.declared.Refusal.{Refusal}
 use Rattle.telegram.proofs.Outcomes.{never, done-one, refused-one, passed, passed-for, went_on}
 
 pub frame-short : (s : List ℕ) → length s < 4 → refused 1 ≡ framing s
@@ -109,3 +111,8 @@ pub accepted-size : (s : List ℕ) (t : Telegram) → Bytes s → reading s ≡ 
 accepted-size s t y e =
     subst (λ (u : Telegram). u.size ≤ 8) (framed s t (accepted s t e).0).fields
     (size-le (eqb (index_in s) 7) (index_in s) refl (omega (arith, y 1, y 2)))
+
+-- Where the reader's answer is a refusal, what `refusal_of` gives of it has the reason of the outcome.
+pub refusal_is : (s : List ℕ) (r : Result Telegram Refusal) {e x : Refusal} → outcome_of r ≡ reading s → r ≡ Err e → x ≡ refusal_in r
+    → reading s ≡ refused_for (reason_of x)
+refusal_is s r a k q = sym a ∙ ap outcome_of k ∙ sym (ap (λ (y : Refusal). refused_for (reason_of y)) (q ∙ ap refusal_in k))

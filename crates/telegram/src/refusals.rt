@@ -48,8 +48,7 @@ pub fn refusal_value(e: Refusal) -> u32
     }
 }
 
-// The refusal in the reader's answer, to pass it on whole. (An accepted telegram, of which nothing asks, gives 1.) The crates here write
-// `unwrap_err`; docs/PROMISES.md names this function.
+// The refusal in the reader's answer, to pass it on whole. (An accepted telegram, of which nothing asks, gives 1.)
 pub fn refusal_of(r: Result<Telegram, Refusal>) -> Refusal
     ensures { result ≡ refusal_in r }
 {

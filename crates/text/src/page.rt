@@ -194,7 +194,11 @@ fn argument(b: u8) -> [u8; 1]
     [if b == 0 { b' ' } else { b }]
 }
 
+// What `write!` writes is appended piece by piece, each as a word is that is put.
 impl<'a> fmt::Write for Page<'a> {
+    ghost write_str_gives = { λ before piece after. (after.room.ghost_name ≡ before.room.ghost_name)
+        × (text after.used after.room.now ≡ appended piece (text before.used before.room.now)) };
+
     fn write_str(&mut self, s: &str) -> fmt::Result {
         self.put(s.as_bytes());
         Ok(())

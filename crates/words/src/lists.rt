@@ -1,23 +1,32 @@
 // Lists: the flags of a status byte, the groups of a group word.
 ghost use Rattle.std.specs.Iterator.{IsFinite};
 
-use text::Page;
+use text::{Page, from};
 
-// The bits of a status byte that are flags, the highest first, and their names.
+// The bits of a status byte that are flags, the highest first, and their names, behind what separates them.
 const FLAGS: [(u8, &[u8]); 5] = [
-    (5, b"OTPCRC"),
-    (3, b"CE"),
-    (2, b"LOS"),
-    (1, b"OT"),
-    (0, b"UV"),
+    (5, b" OTPCRC"),
+    (3, b" CE"),
+    (2, b" LOS"),
+    (1, b" OT"),
+    (0, b" UV"),
 ];
 
-// Appends each item whose bit is set in a word, with a character between them, or other words where none is.
-fn put_set<T: Copy, I: Iterator<Item = (u8, T)> + Drop, F: Fn(&mut Page, T)>(
+// The same as strings of an array.
+const STRINGS: [(u8, &[u8]); 5] = [
+    (5, b",\"OTPCRC\""),
+    (3, b",\"CE\""),
+    (2, b",\"LOS\""),
+    (1, b",\"OT\""),
+    (0, b",\"UV\""),
+];
+
+// Appends each item whose bit is set in a word, or other words where none is. An item begins with what separates it, of which the first has
+// none: it is put from index 1 on. (In one piece, so that of a page that is full an item is left out whole.)
+fn put_set<T: Copy, I: Iterator<Item = (u8, T)> + Drop, F: Fn(&mut Page, T, usize)>(
     page: &mut Page,
     items: I,
     word: u16,
-    between: u8,
     none: &[u8],
     put_item: F,
 )
@@ -28,10 +37,7 @@ fn put_set<T: Copy, I: Iterator<Item = (u8, T)> + Drop, F: Fn(&mut Page, T)>(
     let start = page.used;
     for (bit, item) in items {
         if word >> (bit % 16) & 1 == 1 {
-            if page.used != start {
-                page.put_byte(between);
-            }
-            put_item(page, item);
+            put_item(page, item, (page.used == start) as usize);
         }
     }
     if page.used == start {
@@ -45,29 +51,30 @@ pub fn put_flags(page: &mut Page, status: u8, none: &[u8]) {
         page,
         FLAGS.iter().copied(),
         status as u16,
-        b' ',
         none,
-        |p, name| p.put(name),
+        |p, name, first| p.put(from(name, first)),
     );
-}
-
-// Appends a name as a string of an array.
-fn put_string(page: &mut Page, name: &[u8]) {
-    page.put_byte(b'"');
-    page.put(name);
-    page.put_byte(b'"');
 }
 
 // Appends the flags of a status byte as strings of an array, nothing where none is set.
 pub fn put_flag_strings(page: &mut Page, status: u8) {
     put_set(
         page,
-        FLAGS.iter().copied(),
+        STRINGS.iter().copied(),
         status as u16,
-        b',',
         b"",
-        put_string,
+        |p, name, first| p.put(from(name, first)),
     );
+}
+
+// The number of a group behind what separates it: a digit, or two.
+fn put_group(page: &mut Page, group: u8, between: u8, first: usize) {
+    let last = b'0' + group % 10;
+    if group < 10 {
+        page.put(from(&[between, last], first));
+    } else {
+        page.put(from(&[between, b'1', last], first));
+    }
 }
 
 // Appends the numbers of the bits that are set in a group word, with a character between them, or other words where none is set.
@@ -76,8 +83,7 @@ pub fn put_groups(page: &mut Page, groups: u16, between: u8, none: &[u8]) {
         page,
         (0..16).map(|group| (group, group)),
         groups,
-        between,
         none,
-        |p, group| p.put_decimal(group as u64),
+        |p, group, first| put_group(p, group, between, first),
     );
 }

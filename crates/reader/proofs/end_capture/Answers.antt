@@ -48,8 +48,14 @@ reply Ended = (over, refl)
 pub keep-requires : goal.keep-requires
 keep-requires c = state-long _ _ (holds (goal.at.keep-requires c).After-end_run-c)
 
-pub invariant_of-keep : goal.invariant_of-keep
-invariant_of-keep c = record { fits = (keeps (goal.at.invariant_of-keep c).After-end_run-c).fits }
+pub refuse_kept-requires : goal.refuse_kept-requires
+refuse_kept-requires c = state-long _ _ (holds (goal.at.refuse_kept-requires c).After-end_run-c)
+
+pub invariant_of-left : goal.invariant_of-left
+invariant_of-left c = record { fits = (keeps (goal.at.invariant_of-left c).After-end_run-c).fits }
+
+pub invariant_of-left-in-Err : goal.invariant_of-left-in-Err
+invariant_of-left-in-Err c = record { fits = (keeps (goal.at.invariant_of-left-in-Err c).After-end_run-c).fits }
 
 pub returns-in-Ok : goal.returns-in-Ok
 returns-in-Ok c =
@@ -60,7 +66,6 @@ returns-in-Ok c =
 
 pub returns-in-Err : goal.returns-in-Err
 returns-in-Err c =
-    let q = (goal.at.returns-in-Err c).After-end_run-c in
-    let k = (keeps q).refused _ (ap answer_as c.in-Err.is) in
-    let p = ended (told q _ c.in-Err.is) c.refusal_value.ensures (c.keep.ensures ∙ k) in
+    let w = c.refuse_kept.ensures in
+    let p = ended (told (goal.at.returns-in-Err c).After-end_run-c _ c.in-Err.is) w.value w.reader_after in
     record { value = p.0; reader_after = p.1 }

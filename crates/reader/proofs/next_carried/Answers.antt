@@ -153,8 +153,8 @@ keep-requires c = enough (goal.at.keep-requires c).After-next_at-n
 pub keep-requires-in-Ok-Ended : goal.keep-requires-in-Ok-Ended
 keep-requires-in-Ok-Ended c = enough (goal.at.keep-requires-in-Ok-Ended c).After-next_at-n
 
-pub keep-requires-in-Err : goal.keep-requires-in-Err
-keep-requires-in-Err c = enough (goal.at.keep-requires-in-Err c).After-next_at-n
+pub refuse_kept-requires : goal.refuse_kept-requires
+refuse_kept-requires c = enough (goal.at.refuse_kept-requires c).After-next_at-n
 
 pub keep_carried-requires : goal.keep_carried-requires
 keep_carried-requires c = waits (goal.at.keep_carried-requires c).After-next_at-n (ap answer_as (c.in-Ok-More.is ∙ ap Ok (rw c.in-Ok-More.is at c.in-Ok-More.field-0-is)))
@@ -168,8 +168,8 @@ invariant_of-keep_carried c = record { fits = (keeps (goal.at.invariant_of-keep_
 pub invariant_of-keep-in-Ok-Ended : goal.invariant_of-keep-in-Ok-Ended
 invariant_of-keep-in-Ok-Ended c = record { fits = (keeps (goal.at.invariant_of-keep-in-Ok-Ended c).After-next_at-n).fits }
 
-pub invariant_of-keep-in-Err : goal.invariant_of-keep-in-Err
-invariant_of-keep-in-Err c = record { fits = (keeps (goal.at.invariant_of-keep-in-Err c).After-next_at-n).fits }
+pub invariant_of-refuse_kept : goal.invariant_of-refuse_kept
+invariant_of-refuse_kept c = record { fits = (keeps (goal.at.invariant_of-refuse_kept c).After-next_at-n).fits }
 
 pub returns-else-out-total : goal.returns-else-out-total
 returns-else-out-total c =
@@ -198,7 +198,6 @@ returns-in-Ok-Ended c =
 
 pub returns-in-Err : goal.returns-in-Err
 returns-in-Err c =
-    let q = (goal.at.returns-in-Err c).After-next_at-n in
-    let k = (keeps q).refused _ (ap answer_as c.in-Err.is) in
-    let p = called (told q _ c.in-Err.is) c.args.out.now c.refusal_value.ensures (c.keep-in-Err.ensures ∙ k) refl refl in
+    let w = c.refuse_kept.ensures in
+    let p = called (told (goal.at.returns-in-Err c).After-next_at-n _ c.in-Err.is) c.args.out.now w.value w.reader_after refl refl in
     record { value = p.0; reader_after = p.1.0; at_after = p.1.1.0; out_after = p.1.1.1 }

@@ -7,14 +7,14 @@ use lib.ListN.{take, drop}
 use Rattle.std.specs.Prelude.{Ok}
 use Rattle.telegram.specs.Numbers.{refused_for, done, reason_of, outcome_of}
 use Rattle.telegram.specs.Telegram.{reading}
-use Rattle.telegram.proofs.Reading.{accepted-count}
+use Rattle.telegram.proofs.Reading.{accepted-count, refusal_is}
 use Rattle.command.specs.Commands.{heading_as, naming, dissecting}
 use Rattle.command.proofs.Naming.{headed-size, headed-message, dissect-refused, dissect-named}
 use Rattle.chain.specs.Helpers.{refused_in, responded_in, sent_in}
 use Rattle.chain.proofs.Responding.{told-as}
 use Rattle.chain.proofs.Delivering.{delivered-as, refused-told, accepted-cast, accepted-number}
 use Rattle.chain.proofs.delivery.deliver_valid.Goals as goal
-use Rattle.chain.proofs.delivery.deliver_valid.Goals.{In-Ok, In-Ok-heading_of, In-Err, After-unwrap_err}
+use Rattle.chain.proofs.delivery.deliver_valid.Goals.{In-Ok, In-Ok-heading_of, In-Err, After-refusal_of}
 
 -- what the reader accepted ..
 read_is : (c : In-Ok) → reading c.args.telegram.now ≡ done c.in-Ok.t
@@ -36,8 +36,8 @@ sent_is c =
     sym (headed-message _ _ _ (heading-is c) (omega (arith, accepted-count _ _ r)) refl ∙ dissect-named _ r)
 
 -- what the reader or the heading refuses, the dissector refuses
-unread : (c : After-unwrap_err) → dissecting c.args.telegram.now ≡ refused_for (reason_of c.unwrap_err.result)
-unread c = sym (dissect-refused _ (sym c.read_telegram-read.ensures ∙ ap outcome_of c.unwrap_err.ensures))
+unread : (c : After-refusal_of) → dissecting c.args.telegram.now ≡ refused_for (reason_of c.refusal_of.result)
+unread c = sym (dissect-refused _ (refusal_is _ _ c.read_telegram-read.ensures c.in_default.is c.refusal_of.ensures))
 
 unnamed : (c : In-Err) → dissecting c.args.telegram.now ≡ refused_for (reason_of c.in-Err.e)
 unnamed c =
@@ -48,7 +48,7 @@ unnamed c =
 pub returns-in_default : goal.returns-in_default
 unfolding responded_in refused_in
 returns-in_default c = let a = c.args in
-    told-as a.mem.now a.room.now (delivered-as a.mem.now a.telegram.now (unread (goal.at.returns-in_default c).After-unwrap_err)) (refused-told a.mem.now a.room.now (reason_of c.unwrap_err.result) c.refuse.ensures)
+    told-as a.mem.now a.room.now (delivered-as a.mem.now a.telegram.now (unread (goal.at.returns-in_default c).After-refusal_of)) (refused-told a.mem.now a.room.now (reason_of c.refusal_of.result) c.refuse.ensures)
 
 pub overflow_add-order : goal.overflow_add-order
 overflow_add-order c = omega (arith, accepted-count _ _ (read_is (goal.at.overflow_add-order c).In-Ok))

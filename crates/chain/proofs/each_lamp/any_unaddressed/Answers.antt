@@ -14,7 +14,7 @@ loop-i-init c = ap any_unaddressed (rest_all c.args.count c.args.mem.now)
 pub loop-i-preserved : goal.loop-i-preserved
 loop-i-preserved c = let l = c.loop-i in
     let a = c.args in
-    rw c.load_address.ensures (unaddressed-step l.any l.i a.count a.mem.now (omega arith) ∙ l.invariant)
+    rw (c.or-any.ensures, c.load_address.ensures) (unaddressed-step l.any l.i a.count a.mem.now (omega arith) ∙ l.invariant)
 
 pub returns : goal.returns
 returns c = let l = c.loop-i in

@@ -14,7 +14,7 @@ loop-i-init c = ap lamps_right (rest_all c.args.count c.args.mem.now)
 pub loop-i-preserved : goal.loop-i-preserved
 loop-i-preserved c = let l = c.loop-i in
     let a = c.args in
-    rw c.lamp_right-right.ensures (right-step l.right l.i a.count a.mem.now (omega arith) ∙ l.invariant)
+    rw (c.and-right.ensures, c.lamp_right.ensures) (right-step l.right l.i a.count a.mem.now (omega arith) ∙ l.invariant)
 
 pub returns : goal.returns
 returns c = let l = c.loop-i in

@@ -8,9 +8,9 @@ use Rattle.osp.proofs.ChainCalls.{counted-short}
 use Rattle.chain.proofs.Lengths.{short-delivered}
 use Rattle.osp.proofs.chains.osp_deliver.Goals as goal
 
-pub count_returned-requires : goal.count_returned-requires
-count_returned-requires c = let a = c.args in
+pub delivered_returned-requires : goal.delivered_returned-requires
+delivered_returned-requires c = let a = c.args in
     let n = length a.out.now in counted-short (delivered a.mem.now a.s.now n).outcome (short-delivered a.mem.now a.s.now n) c.deliver.ensures.answer
 
 pub returns : goal.returns
-returns c = record { value = c.count_returned.ensures ∙ ap packed c.deliver.ensures.answer; mem_after = c.deliver.ensures.memory; out_after = c.deliver.ensures.room }
+returns c = record { value = c.delivered_returned.ensures ∙ ap packed c.deliver.ensures.answer; mem_after = c.deliver.ensures.memory; out_after = c.deliver.ensures.room }

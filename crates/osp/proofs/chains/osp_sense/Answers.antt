@@ -6,9 +6,9 @@ use Rattle.chain.specs.Memory.{sensed_in}
 use Rattle.osp.proofs.ChainCalls.{silent-short}
 use Rattle.osp.proofs.chains.osp_sense.Goals as goal
 
-pub count_returned-requires : goal.count_returned-requires
-count_returned-requires c = let a = c.args in
+pub delivered_returned-requires : goal.delivered_returned-requires
+delivered_returned-requires c = let a = c.args in
     silent-short (sensed_in a.mem.now a.place a.temperature a.faults) c.sense.ensures.answer
 
 pub returns : goal.returns
-returns c = record { value = c.count_returned.ensures ∙ ap packed c.sense.ensures.answer; mem_after = c.sense.ensures.memory }
+returns c = record { value = c.delivered_returned.ensures ∙ ap packed c.sense.ensures.answer; mem_after = c.sense.ensures.memory }

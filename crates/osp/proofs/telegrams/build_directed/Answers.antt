@@ -4,8 +4,8 @@ use lib.ListN.{length}
 use Rattle.osp.proofs.Giving.{count-short, command-built-short}
 use Rattle.osp.proofs.telegrams.build_directed.Goals as goal
 
-pub count_returned-requires : goal.count_returned-requires
-count_returned-requires c =
+pub built_returned-requires : goal.built_returned-requires
+built_returned-requires c =
     let a = c.args in
     count-short c.build_command.result _ c.build_command.ensures.result_value
     (command-built-short a.c c.in-Some.cast (length a.out.now))

@@ -3,5 +3,5 @@
 use Rattle.osp.proofs.Giving.{count-short, built-short}
 use Rattle.osp.proofs.telegrams.osp_build.Goals as goal
 
-pub count_returned-requires : goal.count_returned-requires
-count_returned-requires c = count-short c.build_telegram.result _ c.build_telegram.ensures.result_value (built-short _ _ _ _)
+pub built_returned-requires : goal.built_returned-requires
+built_returned-requires c = count-short c.build_telegram.result _ c.build_telegram.ensures.result_value (built-short _ _ _ _)

@@ -22,8 +22,8 @@ returns-in_default c =
     refl in
     record { value = p.0; out_after = p.1 }
 
-pub count_returned-requires : goal.count_returned-requires
-count_returned-requires c = count-short c.build_pwm.result _ c.build_pwm.ensures.result_value
+pub built_returned-requires : goal.built_returned-requires
+built_returned-requires c = count-short c.build_pwm.result _ c.build_pwm.ensures.result_value
     (command-built-short (SetPwm c.pwm_of_mode-r.result c.pwm_of_mode-g.result c.pwm_of_mode-b.result) c.in-Some.cast (length c.args.out.now))
 
 pub returns : goal.returns
@@ -37,6 +37,6 @@ returns c =
     ∙ sym
     (pwm-directed a.cast a.value a.modes a.red a.green a.blue (length a.out.now) (omega arith) (omega arith) (omega arith) (omega arith)
     ∙ after-done _ _ (sym c.in-Some.ensures)))
-    (c.count_returned.ensures ∙ ap packed c.build_pwm.ensures.result_value)
+    (c.built_returned.ensures ∙ ap packed c.build_pwm.ensures.result_value)
     c.build_pwm.ensures.out_after in
     record { value = p.0; out_after = p.1 }
